@@ -7,7 +7,7 @@ use Rattle.std.proofs.lemmas.List.Sums.{sum_by-cons}
 use Rattle.drt_model.specs.declared.jobs.Policy.TheVariants.{Fixed}
 use Rattle.drt_model.specs.declared.tasks.Task.{Task}
 use Rattle.drt_model.specs.Constrained.{AreConstrained}
-use Rattle.drt_model.specs.Limits.{IsPriority, IsTaskSet, most_tasks}
+use Rattle.drt_model.specs.Limits.{IsPriority, IsTaskSet, most_tasks, most_time}
 use Rattle.drt_model.specs.Schedulable.{Schedulable}
 use Rattle.drt_busy.specs.Decide.{TimesDecide}
 use Rattle.drt_priorities.specs.Priorities.{ArePriorities, OrderExists, prioritised}
@@ -171,7 +171,7 @@ ranks_are_priorities n ranks are few = (
       | inr ne ↦ omega arith
     ]
 
-    most : (i : ℕ) → i < length ranks → get_or ranks i 0 ≤ 1000000
+    most : (i : ℕ) → i < length ranks → get_or ranks i 0 ≤ most_time
     most i l = elim (are.each i 0 l) [
       | inl e ↦ omega (arith, e)
       | inr h ↦ omega (arith, h.1)

@@ -3,6 +3,7 @@ use Rattle.std.proofs.Common.{◌≡◌, ℕ, ◌+◌, ◌*◌, ◌<◌, ◌≤�
 use Rattle.std.specs.Prelude.{◌↔◌}
 use Rattle.std.proofs.lemmas.Bool.{cases_lt, le-ltb, lt-ltb}
 use Rattle.std.proofs.lemmas.List.{drop_more, drop_all}
+use Rattle.drt_model.specs.Limits.{most_time}
 use Rattle.drt_model.specs.Digraph.{Digraph}
 use Rattle.drt_model.specs.RequestFunction.{requested_from}
 use Rattle.drt_model.specs.Walk.{gap, wcet, work}
@@ -106,8 +107,8 @@ module _ (g : Digraph) where
   -- What is known of a comparison at a place of the other walk.
   pub record IsSettled (bound : ℕ) (other walk : List ℕ) (i offset done : ℕ) (c : Cursor) : Type 0 where
     pub placed : IsCursorPlaced walk c
-    pub offset_small : offset ≤ 1000000 * i
-    pub done_small : done ≤ 1000000 * i
+    pub offset_small : offset ≤ most_time * i
+    pub done_small : done ≤ most_time * i
     pub least : done ≤ c.work
     pub same : AsksNoLess bound g other walk ↔ Stays bound offset done (drop i other) (asked_at g walk c)
 
@@ -140,7 +141,7 @@ module _ (g : Digraph) where
             at (inl q) = let a = past q in let e = asks_none d.offset (drop d.place walk) (offset + 1) (omega (arith, a)) in omega (arith, e)
             at (inr q) = let e : asked_by_rest g d.offset (drop d.place walk) (offset + 1) ≡ 0 = ap (λ xs. asked_by_rest g d.offset xs (offset + 1)) (drop_all d.place walk q) in omega (arith, e)
 
-        pub settled_more : IsCursorPlaced walk d → wcet g (get_or other i 0) ≤ 1000000 → leap g other i ≤ 1000000 → done + wcet g (get_or other i 0) ≤ d.work
+        pub settled_more : IsCursorPlaced walk d → wcet g (get_or other i 0) ≤ most_time → leap g other i ≤ most_time → done + wcet g (get_or other i 0) ≤ d.work
             → IsSettled bound other walk (i + 1) (offset + leap g other i) (done + wcet g (get_or other i 0)) d
         settled_more placed small short enough =
             let a = stays_same bound offset done (drop i other) (asked_at g walk c) (asked_at g walk d) same in

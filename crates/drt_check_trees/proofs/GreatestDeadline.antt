@@ -5,7 +5,7 @@ use Rattle.std.proofs.lemmas.List.Elements.{All-head, All-tail}
 use Rattle.drt_model.specs.declared.tasks.Task.{Task}
 use Rattle.drt_model.specs.declared.tasks.Vertex.{Vertex}
 use Rattle.drt_model.specs.Digraph.{no_vertex, vertex_count}
-use Rattle.drt_model.specs.Limits.{IsTask, IsTaskSet, IsVertex}
+use Rattle.drt_model.specs.Limits.{IsTask, IsTaskSet, IsVertex, most_time}
 use Rattle.drt_model.specs.Walk.{deadline}
 use Rattle.drt_busy.specs.Choice.{graph_at, no_task, task_at}
 use Rattle.drt_claims.specs.Trees.{greatest_deadline, latest_deadline}
@@ -48,12 +48,12 @@ greatest_bounds (t ∷ tasks) (suc k) d l = omega (arith, greatest_bounds tasks 
 pub deadline_near : (tasks : List Task) (k v : ℕ) → k < length tasks → v < vertex_count (graph_at tasks k) → deadline (graph_at tasks k) v ≤ greatest_deadline tasks
 deadline_near tasks k v l m = omega (arith, latest_bounds (task_at tasks k).vertices v no_vertex m, greatest_bounds tasks k no_task l)
 
-latest_most : (vertices : List Vertex) → All IsVertex vertices → latest_deadline vertices ≤ 1000000
+latest_most : (vertices : List Vertex) → All IsVertex vertices → latest_deadline vertices ≤ most_time
 unfolding latest_deadline
 latest_most [] are = omega arith
 latest_most (x ∷ vertices) are = omega (arith, (All-head IsVertex x vertices are).deadline.1, latest_most vertices (All-tail IsVertex x vertices are))
 
-pub greatest_most : (version : ℕ) (tasks : List Task) → All (IsTask version) tasks → greatest_deadline tasks ≤ 1000000
+pub greatest_most : (version : ℕ) (tasks : List Task) → All (IsTask version) tasks → greatest_deadline tasks ≤ most_time
 unfolding greatest_deadline
 greatest_most version [] are = omega arith
 greatest_most version (t ∷ tasks) are = omega (arith, latest_most t.vertices (All-head (IsTask version) t tasks are).vertices, greatest_most version tasks (All-tail (IsTask version) t tasks are))

@@ -2,6 +2,7 @@
 use Rattle.std.proofs.Common.{◌≡◌, ℕ, zero, suc, ◌+◌, ◌-◌, ◌*◌, ◌/◌, ◌%◌, ◌<◌, ◌≤◌, ◌⊎◌, inl, inr, List, [], ◌∷◌, ◌++◌, length, get_or, ap, arith, ◌∙◌, length-append}
 use Rattle.std.proofs.lemmas.Bool.{cases_lt}
 use Rattle.std.proofs.lemmas.List.{drop_more, drop_all, get_or_append_left, get_or-append_right}
+use Rattle.drt_model.specs.Limits.{most_time}
 use Rattle.drt_model.specs.Digraph.{Digraph}
 use Rattle.drt_model.specs.Walk.{gap}
 use Rattle.drt_check_trees.specs.Gaps.{AreGaps, gap_to, leap}
@@ -10,7 +11,7 @@ use Rattle.drt_check_trees.specs.Gaps.{AreGaps, gap_to, leap}
 pub record AreGapsTo (g : Digraph) (gaps : List ℕ) (n : ℕ) : Type 0 where
   pub long : length gaps ≡ n
   pub each : (k : ℕ) → k < n → get_or gaps k 0 ≡ gap g (k / 96) (k % 96)
-  pub small : (k : ℕ) → get_or gaps k 0 ≤ 1000000
+  pub small : (k : ℕ) → get_or gaps k 0 ≤ most_time
 
 module _ (g : Digraph) where
   pub all_gaps : (gaps : List ℕ) → AreGapsTo g gaps 9216 → AreGaps g gaps
@@ -36,7 +37,7 @@ module _ (g : Digraph) where
   pub gaps_to : (gaps : List ℕ) (n : ℕ) → AreGapsTo g gaps n → 9216 ≤ n → n ≤ 9216 → AreGapsTo g gaps 9216
   gaps_to gaps n to l m = record { long = omega (arith, to.long); each = λ k q. to.each k (omega arith); small = to.small }
 
-  pub gaps_more : (gaps more : List ℕ) (n x : ℕ) → AreGapsTo g gaps n → more ≡ gaps ++ x ∷ [] → x ≡ gap g (n / 96) (n % 96) → x ≤ 1000000 → AreGapsTo g more (n + 1)
+  pub gaps_more : (gaps more : List ℕ) (n x : ℕ) → AreGapsTo g gaps n → more ≡ gaps ++ x ∷ [] → x ≡ gap g (n / 96) (n % 96) → x ≤ most_time → AreGapsTo g more (n + 1)
   gaps_more gaps more n x to e is small = record {
     long = ap length e ∙ (length-append gaps (x ∷ []) ∙ omega (arith, to.long));
     each = λ k l. ap (λ xs. get_or xs k 0) e ∙ go k (cases_lt k n) l;
@@ -53,10 +54,10 @@ module _ (g : Digraph) where
           let z : k - n ≡ 0 = omega arith in
           at k q ∙ (ap (λ j. get_or (x ∷ []) j 0) z ∙ (is ∙ ap (λ j. gap g (j / 96) (j % 96)) s))
 
-      one : (j : ℕ) → get_or (x ∷ []) j 0 ≤ 1000000
+      one : (j : ℕ) → get_or (x ∷ []) j 0 ≤ most_time
       one zero = small
       one (suc j) = omega arith
 
-      low : (k : ℕ) → (k < n) ⊎ (n ≤ k) → get_or (gaps ++ x ∷ []) k 0 ≤ 1000000
+      low : (k : ℕ) → (k < n) ⊎ (n ≤ k) → get_or (gaps ++ x ∷ []) k 0 ≤ most_time
       low k (inl q) = omega (arith, get_or_append_left gaps (x ∷ []) 0 k (omega (arith, to.long, q)), to.small k)
       low k (inr q) = omega (arith, at k q, one (k - n))

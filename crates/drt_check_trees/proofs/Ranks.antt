@@ -6,6 +6,7 @@ use Rattle.std.proofs.lemmas.Bool.{ltb-true, lt-ltb}
 use Rattle.std.proofs.lemmas.List.{get_or_default}
 use Rattle.std.proofs.lemmas.List.Sorted.{All-permutation, Contains-permutation}
 use Rattle.std.proofs.lemmas.List.Elements.{All-cons, All-head, All-nil, All-tail}
+use Rattle.drt_model.specs.Limits.{most_time}
 use Rattle.drt_model.specs.Digraph.{Digraph, IsSoundGraph, vertex_count}
 use Rattle.drt_model.specs.Walk.{IsPath, gap, last_of, span, work}
 use Rattle.drt_graph.proofs.Edges.{target_of}
@@ -48,7 +49,7 @@ module _ (g : Digraph) (sound : IsSoundGraph g) where
       omega (arith, a, b, c)
 
   module _ (bound : ℕ) where
-    pub short_within : (walk : List ℕ) → bound ≤ 1000000 → IsShortWalk bound g walk → AreWalkVertices g walk
+    pub short_within : (walk : List ℕ) → bound ≤ most_time → IsShortWalk bound g walk → AreWalkVertices g walk
     short_within [] b is = absurd is
     short_within (u ∷ vs) b is = record { each = path_all u vs is.0 is.1; few = omega (arith, path_long u vs is.1, is.2, b) }
 
@@ -105,7 +106,7 @@ rank_last last work other less from to = omega arith
 pub rank_in : (last work other more : ℕ) → other ≡ last → work ≤ more → (1099511627776 * last ≤ rank_of other more) × (rank_of other more ≤ rank_of last work)
 rank_in last work other more e l = (omega arith, omega arith)
 
-work_small : (g : Digraph) → IsSoundGraph g → (walk : List ℕ) → All (λ v. v < vertex_count g) walk → work g walk ≤ 1000000 * length walk
+work_small : (g : Digraph) → IsSoundGraph g → (walk : List ℕ) → All (λ v. v < vertex_count g) walk → work g walk ≤ most_time * length walk
 work_small g sound [] all = omega (arith, work_none g)
 work_small g sound (u ∷ vs) all =
     let l = All-head (λ v. v < vertex_count g) u vs all in
@@ -115,7 +116,7 @@ work_small g sound (u ∷ vs) all =
     omega (arith, a, b, c)
 
 -- A short walk has at most 10^12 ticks of work.
-pub short_small : (g : Digraph) → IsSoundGraph g → (bound : ℕ) (walk : List ℕ) → bound ≤ 1000000 → IsShortWalk bound g walk → work g walk ≤ 1000000000000
+pub short_small : (g : Digraph) → IsSoundGraph g → (bound : ℕ) (walk : List ℕ) → bound ≤ most_time → IsShortWalk bound g walk → work g walk ≤ 1000000000000
 short_small g sound bound walk b is =
     let w = short_within g sound bound walk b is in
     let a = work_small g sound walk w.each in
@@ -181,7 +182,7 @@ by_rank : (low high : Entry) → low.span < 4294967296 → low.digest < 42949672
 by_rank low high a b c d le = omega arith
 
 -- Entries at their numbers, put in order.
-pub entries_sorted : (bound : ℕ) (g : Digraph) (walks : List (List ℕ)) (listed entries : List Entry) → bound ≤ 1000000 → All (IsShortWalk bound g) walks
+pub entries_sorted : (bound : ℕ) (g : Digraph) (walks : List (List ℕ)) (listed entries : List Entry) → bound ≤ most_time → All (IsShortWalk bound g) walks
     → IsListed g walks listed (length walks) → IsPermutation listed entries → IsNonDecreasingBy order_of entries → AreWalkEntries bound g walks entries
 entries_sorted bound g walks listed entries b short is permutation sorted =
     let each : All (IsEntryOf g walks) entries = All-permutation (IsEntryOf g walks) listed entries permutation (λ k d l. (is.each k d (omega (arith, l, is.long))).0) in

@@ -1,5 +1,6 @@
 -- What walks ask for, vertex by vertex.
 use Rattle.std.specs.Prelude.{ℕ, ◌+◌, ◌*◌, ◌<◌, ◌≤◌, List, [], ◌∷◌, All, length, drop}
+use Rattle.drt_model.specs.Limits.{most_time}
 use Rattle.drt_model.specs.Digraph.{Digraph, vertex_count}
 use Rattle.drt_model.specs.RequestFunction.{requested_from}
 use Rattle.drt_model.specs.Walk.{span}
@@ -8,7 +9,7 @@ use Rattle.drt_check_trees.specs.declared.asking.Cursor.{Cursor}
 -- The list has vertices of the graph, and at most 1,000,000.
 pub record AreWalkVertices (g : Digraph) (walk : List ℕ) : Type 0 where
   pub each : All (λ v. v < vertex_count g) walk
-  pub few : length walk ≤ 1000000
+  pub few : length walk ≤ most_time
 
 -- The span of a walk.
 abbrev pub span_of : Digraph → List ℕ → ℕ
@@ -27,8 +28,8 @@ asked_at g walk c t = c.work + asked_by_rest g c.offset (drop c.place walk) t
 -- The cursor stands in the walk, and its numbers are small.
 pub record IsCursorPlaced (walk : List ℕ) (c : Cursor) : Type 0 where
   pub within : c.place ≤ length walk
-  pub offset : c.offset ≤ 1000000 * c.place
-  pub work : c.work ≤ 1000000 * c.place
+  pub offset : c.offset ≤ most_time * c.place
+  pub work : c.work ≤ most_time * c.place
 
 -- At no time from 1 to the bound does the second walk ask for less than the first.
 abbrev pub AsksNoLess : ℕ → Digraph → List ℕ → List ℕ → Type 0

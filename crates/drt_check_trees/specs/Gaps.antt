@@ -1,5 +1,6 @@
 -- The separations of a graph, laid out for looking them up.
 use Rattle.std.specs.Prelude.{◌≡◌, ℕ, ◌+◌, ◌*◌, ◌<◌, ◌≤◌, List, [], ◌∷◌, length, drop, slice_index}
+use Rattle.drt_model.specs.Limits.{most_time}
 use Rattle.drt_model.specs.Digraph.{Digraph}
 use Rattle.drt_model.specs.Walk.{gap}
 
@@ -7,7 +8,7 @@ use Rattle.drt_model.specs.Walk.{gap}
 pub record AreGaps (g : Digraph) (gaps : List ℕ) : Type 0 where
   pub long : length gaps ≡ 9216
   pub each : (u v : ℕ) → u < 96 → v < 96 → slice_index gaps (96 * u + v) ≡ gap g u v
-  pub small : (k : ℕ) → slice_index gaps k ≤ 1000000
+  pub small : (k : ℕ) → slice_index gaps k ≤ most_time
 
 -- The separation from u to the first of some vertices, and 0 where there is none.
 abbrev pub gap_to : Digraph → ℕ → List ℕ → ℕ

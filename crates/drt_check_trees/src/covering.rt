@@ -1,5 +1,6 @@
 //! Whether the walks of trees cover those that extend them.
 ghost use Rattle.std.specs.Prelude.{◌≡◌, ℕ, ◌++◌, ◌∷◌, [], ◌↔◌, ◌<◌, ◌≤◌, All, IfOk, IsTrue};
+ghost use Rattle.drt_model.specs.Limits.{most_time};
 ghost use Rattle.drt_model.specs.Digraph.{out_degree};
 ghost use Rattle.drt_model.specs.Walk.{work};
 ghost use Rattle.drt_claims.specs.Claims.{Each, graphs_of};
@@ -48,7 +49,7 @@ pub fn cover_walks(
 // Whether the tree covers its openings and extensions.
 fn covers(alloc: Global, graph: &Graph, bound: u32, tree: &TreeClaim) -> Result<bool, Memory>
     requires from { 1 ≤ bound }
-    requires to { bound ≤ 1000000 }
+    requires to { bound ≤ most_time }
     requires short { HasShortWalks bound graph.now tree.now }
     ensures { IfOk result (λ covers. IsTrue covers ↔ CoversWalks bound graph.now tree.now) }
 {
@@ -88,7 +89,7 @@ fn has_openings(
 ) -> bool
     requires gaps { AreGaps graph.now gaps.now }
     requires from { 1 ≤ bound }
-    requires to { bound ≤ 1000000 }
+    requires to { bound ≤ most_time }
     requires short { HasShortWalks bound graph.now tree.now }
     requires entries { AreWalkEntries bound graph.now tree.now.walks entries.now }
     ensures { IsTrue result ↔ HasOpeningWalks bound graph.now tree.now }
@@ -127,7 +128,7 @@ fn are_closed(
     hints: &mut [usize; 96],
 ) -> Result<bool, Memory>
     requires gaps { AreGaps graph.now gaps.now }
-    requires bound { bound ≤ 1000000 }
+    requires bound { bound ≤ most_time }
     requires short { HasShortWalks bound graph.now tree.now }
     requires entries { AreWalkEntries bound graph.now tree.now.walks entries.now }
     ensures { IfOk result (λ closed. IsTrue closed ↔ All (IsClosedWalk bound graph.now tree.now) tree.now.walks) }
@@ -162,7 +163,7 @@ fn is_closed(
     walk: &[u32],
 ) -> Result<bool, Memory>
     requires gaps { AreGaps graph.now gaps.now }
-    requires bound { bound ≤ 1000000 }
+    requires bound { bound ≤ most_time }
     requires short { HasShortWalks bound graph.now tree.now }
     requires entries { AreWalkEntries bound graph.now tree.now.walks entries.now }
     requires walk { IsShortWalk bound graph.now walk.now }
@@ -195,7 +196,7 @@ fn is_extended(
     k: u32,
 ) -> Result<bool, Memory>
     requires gaps { AreGaps graph.now gaps.now }
-    requires bound { bound ≤ 1000000 }
+    requires bound { bound ≤ most_time }
     requires short { HasShortWalks bound graph.now tree.now }
     requires entries { AreWalkEntries bound graph.now tree.now.walks entries.now }
     requires walk { IsShortWalk bound graph.now walk.now }

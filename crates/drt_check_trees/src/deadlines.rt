@@ -1,5 +1,6 @@
 //! The greatest deadline of a set.
 ghost use Rattle.std.specs.Prelude.{◌≡◌, ◌≤◌, max};
+ghost use Rattle.drt_model.specs.Limits.{most_time};
 ghost use Rattle.drt_claims.specs.Trees.{greatest_deadline, latest_deadline};
 
 use drt_model::{TaskSet, Vertex};
@@ -8,7 +9,7 @@ use drt_model::{TaskSet, Vertex};
 pub fn greatest_deadline(set: &TaskSet) -> u32
     ensures value { result ≡ greatest_deadline set.now.tasks }
     ensures some { 1 ≤ result }
-    ensures most { result ≤ 1000000 }
+    ensures most { result ≤ most_time }
 {
     let mut greatest = 0;
     for task in set.tasks() {

@@ -1,6 +1,7 @@
 //! Walks of a tree in order, as many as dominate all of its walks, and the search for one that dominates a given walk.
 ghost use Rattle.std.specs.Prelude.{◌≡◌, ℕ, ◌↔◌, ◌<◌, ◌≤◌, [], All, Any, IfOk, IsTrue, length, slice_index_or};
 ghost use Rattle.std.specs.List.Sorted.{IsNonDecreasingBy};
+ghost use Rattle.drt_model.specs.Limits.{most_time};
 ghost use Rattle.drt_model.specs.Walk.{work};
 ghost use Rattle.drt_claims.specs.Trees.{IsShortWalk};
 ghost use Rattle.drt_check_trees.specs.Asking.{AsksNoLess, AreWalkVertices, span_of};
@@ -59,7 +60,7 @@ pub(crate) fn entries_of(
     walks: &[Row<u32>],
 ) -> Result<Vec<Entry>, Memory>
     requires gaps { AreGaps graph.now gaps.now }
-    requires bound { bound ≤ 1000000 }
+    requires bound { bound ≤ most_time }
     requires short { All (IsShortWalk bound graph.now) walks.now }
     ensures { IfOk result (λ entries. AreWalkEntries bound graph.now walks.now entries.items) }
 {
@@ -81,7 +82,7 @@ fn thinned(
     all: Vec<Entry>,
 ) -> Vec<Entry>
     requires gaps { AreGaps graph.now gaps.now }
-    requires bound { bound ≤ 1000000 }
+    requires bound { bound ≤ most_time }
     requires short { All (IsShortWalk bound graph.now) walks.now }
     requires all { AreWalkEntries bound graph.now walks.now all.items }
     ensures { AreWalkEntries bound graph.now walks.now result.items }
@@ -112,7 +113,7 @@ fn is_over(
     span: u64,
 ) -> bool
     requires gaps { AreGaps graph.now gaps.now }
-    requires bound { bound ≤ 1000000 }
+    requires bound { bound ≤ most_time }
     requires short { All (IsShortWalk bound graph.now) walks.now }
     requires entry { IsEntryOf graph.now walks.now entry }
     requires walk { IsShortWalk bound graph.now walk.now }
@@ -134,7 +135,7 @@ fn listed(
     walks: &[Row<u32>],
 ) -> Result<Vec<Entry>, Memory>
     requires gaps { AreGaps graph.now gaps.now }
-    requires bound { bound ≤ 1000000 }
+    requires bound { bound ≤ most_time }
     requires short { All (IsShortWalk bound graph.now) walks.now }
     ensures { IfOk result (λ entries. IsListed graph.now walks.now entries.items (length walks.now)) }
 {
@@ -148,7 +149,7 @@ fn listed(
 // The entry of a walk that has this number.
 fn entry_of(graph: &Graph, gaps: &[u32], bound: u32, walk: &[u32], number: usize) -> Entry
     requires gaps { AreGaps graph.now gaps.now }
-    requires bound { bound ≤ 1000000 }
+    requires bound { bound ≤ most_time }
     requires short { IsShortWalk bound graph.now walk.now }
     ensures number { result.number ≡ number }
     ensures rank { result.rank ≡ rank_of (last_in walk.now) (work graph.now walk.now) }
@@ -208,7 +209,7 @@ fn is_no_less(
     span: u64,
 ) -> bool
     requires gaps { AreGaps graph.now gaps.now }
-    requires bound { bound ≤ 1000000 }
+    requires bound { bound ≤ most_time }
     requires short { All (IsShortWalk bound graph.now) walks.now }
     requires entry { IsEntryOf graph.now walks.now entry }
     requires other { IsShortWalk bound graph.now other.now }
@@ -233,7 +234,7 @@ fn is_over_at(
     span: u64,
 ) -> bool
     requires gaps { AreGaps graph.now gaps.now }
-    requires bound { bound ≤ 1000000 }
+    requires bound { bound ≤ most_time }
     requires short { All (IsShortWalk bound graph.now) walks.now }
     requires entries { AreWalkEntries bound graph.now walks.now entries.now }
     requires walk { IsShortWalk bound graph.now walk.now }
@@ -267,7 +268,7 @@ pub(crate) fn has_above(
     extent: Extent,
 ) -> bool
     requires gaps { AreGaps graph.now gaps.now }
-    requires bound { bound ≤ 1000000 }
+    requires bound { bound ≤ most_time }
     requires short { All (IsShortWalk bound graph.now) walks.now }
     requires entries { AreWalkEntries bound graph.now walks.now entries.now }
     requires walk { IsShortWalk bound graph.now walk.now }

@@ -1,5 +1,6 @@
 //! The separations of a graph, laid out so that each is found by one look.
 ghost use Rattle.std.specs.Prelude.{◌≡◌, ◌+◌, ◌<◌, ◌≤◌, IfOk, length};
+ghost use Rattle.drt_model.specs.Limits.{most_time};
 ghost use Rattle.drt_model.specs.Walk.{gap};
 ghost use Rattle.drt_check_trees.specs.Asking.{AreWalkVertices};
 ghost use Rattle.drt_check_trees.specs.Gaps.{AreGaps, leap};
@@ -22,7 +23,7 @@ pub(crate) fn gaps_of(alloc: Global, graph: &Graph) -> Result<Vec<u32>, Memory>
 // The separation of the edge from `u` to `v`, and 0 where there is none.
 fn gap_between(graph: &Graph, u: u32, v: u32) -> u32
     ensures value { result ≡ gap graph.now u v }
-    ensures most { result ≤ 1000000 }
+    ensures most { result ≤ most_time }
 {
     if u >= graph.vertex_count() {
         return 0;
@@ -46,7 +47,7 @@ pub(crate) fn next_offset(
     requires place { place < length walk.now }
     requires offset { offset ≤ 1000000000000 }
     ensures value { result ≡ offset + leap graph.now walk.now place }
-    ensures most { result ≤ offset + 1000000 }
+    ensures most { result ≤ offset + most_time }
 {
     let _count = graph.vertex_count();
     if place + 1 == walk.len() {

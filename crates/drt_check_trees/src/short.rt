@@ -1,5 +1,6 @@
 //! Whether walks are short.
 ghost use Rattle.std.specs.Prelude.{◌≡◌, ◌↔◌, ◌≤◌, IsTrue};
+ghost use Rattle.drt_model.specs.Limits.{most_time};
 ghost use Rattle.drt_claims.specs.Claims.{Each, graphs_of};
 ghost use Rattle.drt_claims.specs.Trees.{HasShortWalks, IsShortWalk, IsTreePerHigherTask, greatest_deadline, tree_graphs};
 ghost use Rattle.drt_check_trees.specs.Order.{IsPriorityOrder};
@@ -30,7 +31,7 @@ pub fn have_short_walks(set: &TaskSet, graphs: &Graphs, order: &[u32], trees: &[
 // Whether the walks of the tree are walks of the graph that span less than the bound.
 fn has_short_walks(graph: &Graph, bound: u32, tree: &TreeClaim) -> bool
     requires from { 1 ≤ bound }
-    requires to { bound ≤ 1000000 }
+    requires to { bound ≤ most_time }
     ensures { IsTrue result ↔ HasShortWalks bound graph.now tree.now }
 {
     let walks = tree.walks.as_slice();
@@ -45,7 +46,7 @@ fn has_short_walks(graph: &Graph, bound: u32, tree: &TreeClaim) -> bool
 // Whether the list is a walk of the graph that spans less than the bound.
 fn is_short(graph: &Graph, bound: u32, walk: &[u32]) -> bool
     requires from { 1 ≤ bound }
-    requires to { bound ≤ 1000000 }
+    requires to { bound ≤ most_time }
     ensures { IsTrue result ↔ IsShortWalk bound graph.now walk.now }
 {
     if walk.is_empty() || walk[0] >= graph.vertex_count() {

@@ -5,6 +5,7 @@ use Rattle.std.proofs.lemmas.Bool.{cases_lt, cases_eq, eqb-true, eqb-false, lt-l
 use Rattle.std.proofs.lemmas.List.{append_assoc}
 use Rattle.std.proofs.lemmas.List.Elements.{All-nil, All-cons, All-append}
 use Rattle.std.proofs.lemmas.List.Sums.{sum_by-cons, sum_by-append}
+use Rattle.drt_model.specs.Limits.{most_time}
 use Rattle.drt_model.specs.Digraph.{Digraph, IsSoundGraph, vertex_count}
 use Rattle.drt_model.specs.Walk.{gap, wcet, IsPath, span}
 use Rattle.drt_model.specs.RequestFunction.{requested_from}
@@ -104,26 +105,26 @@ along_places g place n [] l = All-nil (λ (r : Rise). r.place < n)
 along_places g place n (u ∷ vs) l = from_places g place n 0 u vs l
 
 -- The releases of a walk come before the bound that its span keeps to.
-from_offsets : (g : Digraph) (place bound x u : ℕ) (vs : List ℕ) → x + span g u vs < bound → bound ≤ 1000000 → All (λ r. r.offset < 1000000) (rises_from g place x u vs)
+from_offsets : (g : Digraph) (place bound x u : ℕ) (vs : List ℕ) → x + span g u vs < bound → bound ≤ most_time → All (λ r. r.offset < most_time) (rises_from g place x u vs)
 unfolding rises_from
-from_offsets g place bound x u [] l few = All-cons (λ (r : Rise). r.offset < 1000000) (rise_at g place x u) [] (omega (arith, span_none g u)) (All-nil (λ (r : Rise). r.offset < 1000000))
+from_offsets g place bound x u [] l few = All-cons (λ (r : Rise). r.offset < most_time) (rise_at g place x u) [] (omega (arith, span_none g u)) (All-nil (λ (r : Rise). r.offset < most_time))
 from_offsets g place bound x u (v ∷ vs) l few =
     let s = span_cons g u v vs in
-    All-cons (λ (r : Rise). r.offset < 1000000) (rise_at g place x u) (rises_from g place (x + gap g u v) v vs) (omega arith) (from_offsets g place bound (x + gap g u v) v vs (omega (arith, s)) few)
+    All-cons (λ (r : Rise). r.offset < most_time) (rise_at g place x u) (rises_from g place (x + gap g u v) v vs) (omega arith) (from_offsets g place bound (x + gap g u v) v vs (omega (arith, s)) few)
 
-along_offsets : (g : Digraph) (place bound : ℕ) (walk : List ℕ) → IsShortWalk bound g walk → bound ≤ 1000000 → All (λ r. r.offset < 1000000) (rises_along g place walk)
+along_offsets : (g : Digraph) (place bound : ℕ) (walk : List ℕ) → IsShortWalk bound g walk → bound ≤ most_time → All (λ r. r.offset < most_time) (rises_along g place walk)
 along_offsets g place bound [] is few = absurd is
 along_offsets g place bound (u ∷ vs) is few = from_offsets g place bound 0 u vs (omega (arith, is.2)) few
 
 -- The releases of the first i walks.
 pub record AreRisesTo (g : Digraph) (tree : TreeClaim) (i : ℕ) (rises : List Rise) : Type 0 where
-  pub offsets : All (λ r. r.offset < 1000000) rises
+  pub offsets : All (λ r. r.offset < most_time) rises
   pub places : All (λ r. r.place < length tree.walks) rises
   pub values : (t p : ℕ) → p < length tree.walks → risen_at_place rises t p ≡ at_place (nat_lt (get_or (leaf_order tree) p 0) i) (asked_at_place g tree t p)
 
 pub rises_first : (g : Digraph) (tree : TreeClaim) → AreRisesTo g tree 0 []
 rises_first g tree = record {
-  offsets = All-nil (λ (r : Rise). r.offset < 1000000);
+  offsets = All-nil (λ (r : Rise). r.offset < most_time);
   places = All-nil (λ (r : Rise). r.place < length tree.walks);
   values = λ t p l. none (get_or (leaf_order tree) p 0) (asked_at_place g tree t p);
 }
@@ -132,11 +133,11 @@ rises_first g tree = record {
     none w n = (let e = le-ltb w 0 (omega arith) in rw e refl)
 
 -- The releases of one walk more.
-pub rises_next : (g : Digraph) (tree : TreeClaim) → IsTree tree → (bound : ℕ) → bound ≤ 1000000 → HasShortWalks bound g tree → (i first : ℕ) (rises : List Rise)
+pub rises_next : (g : Digraph) (tree : TreeClaim) → IsTree tree → (bound : ℕ) → bound ≤ most_time → HasShortWalks bound g tree → (i first : ℕ) (rises : List Rise)
     → i < length tree.walks → AreRisesTo g tree i rises → IsFirstLeaf tree i first
     → AreRisesTo g tree (i + 1) (rises ++ rises_along g first (get_or tree.walks i []))
 rises_next g tree is bound few short i first rises l are at = record {
-  offsets = All-append (λ (r : Rise). r.offset < 1000000) rises (rises_along g first walk) are.offsets (along_offsets g first bound walk (short i [] l) few);
+  offsets = All-append (λ (r : Rise). r.offset < most_time) rises (rises_along g first walk) are.offsets (along_offsets g first bound walk (short i [] l) few);
   places = All-append (λ (r : Rise). r.place < length tree.walks) rises (rises_along g first walk) are.places (along_places g first (length tree.walks) walk (omega (arith, inside, count)));
   values = λ t p m. sum_by-append (λ r. added t p r) rises (rises_along g first walk) ∙ go t p m (cases_eq first p);
 }

@@ -6,6 +6,7 @@ use Rattle.std.proofs.lemmas.List.{ext_get_or, get_or-map, get_or_past, length-m
 use Rattle.std.proofs.lemmas.List.FromFn.{length-map-range_with_len, get_or-map-range_with_len}
 use Rattle.std.proofs.lemmas.List.Elements.{All-head, All-tail}
 use Rattle.std.proofs.lemmas.List.Sorted.{All-permutation, sum_by-IsPermutation}
+use Rattle.drt_model.specs.Limits.{most_time}
 use Rattle.drt_model.specs.Digraph.{Digraph, IsSoundGraph, vertex_count}
 use Rattle.drt_model.specs.Walk.{gap, wcet, IsPath, span}
 use Rattle.drt_model.specs.RequestFunction.{requested_from}
@@ -25,11 +26,11 @@ use Rattle.drt_check_values.proofs.Placing.{size_at, sizes_count}
 use Rattle.drt_check_values.proofs.Taking.{early_sum}
 
 -- Each release of a walk asks for at most 1,000,000.
-requested_most : (g : Digraph) → IsSoundGraph g → (x u : ℕ) (vs : List ℕ) (t : ℕ) → u < vertex_count g → IsPath g u vs → requested_from g x u vs t ≤ (length vs + 1) * 1000000
+requested_most : (g : Digraph) → IsSoundGraph g → (x u : ℕ) (vs : List ℕ) (t : ℕ) → u < vertex_count g → IsPath g u vs → requested_from g x u vs t ≤ (length vs + 1) * most_time
 unfolding requested_from
 requested_most g sound x u [] t here path = go (ltb x t)
   where
-    go : (b : Bool) → cond b (wcet g u) 0 ≤ (0 + 1) * 1000000
+    go : (b : Bool) → cond b (wcet g u) 0 ≤ (0 + 1) * most_time
     go true = (let w = sound.wcet u here in omega (arith, w.1))
     go false = omega arith
 requested_most g sound x u (v ∷ vs) t here path =
@@ -37,7 +38,7 @@ requested_most g sound x u (v ∷ vs) t here path =
     let one = go (ltb x t) in
     omega (arith, rest, one)
   where
-    go : (b : Bool) → cond b (wcet g u) 0 ≤ 1000000
+    go : (b : Bool) → cond b (wcet g u) 0 ≤ most_time
     go true = (let w = sound.wcet u here in omega (arith, w.1))
     go false = omega arith
 
@@ -51,14 +52,14 @@ span_most g sound u (v ∷ vs) path =
     omega (arith, rest, to.1, s)
 
 -- So a short walk asks for at most 10^12.
-asked_most : (g : Digraph) → IsSoundGraph g → (bound t : ℕ) (walk : List ℕ) → bound ≤ 1000000 → IsShortWalk bound g walk → asked g t walk ≤ 1000000000000
+asked_most : (g : Digraph) → IsSoundGraph g → (bound t : ℕ) (walk : List ℕ) → bound ≤ most_time → IsShortWalk bound g walk → asked g t walk ≤ 1000000000000
 asked_most g sound bound t [] few is = omega arith
 asked_most g sound bound t (u ∷ vs) few is =
     let a = requested_most g sound 0 u vs t is.0 is.1 in
     let b = span_most g sound u vs is.1 in
     omega (arith, a, b, is.2)
 
-pub walk_most : (g : Digraph) → IsSoundGraph g → (tree : TreeClaim) (bound : ℕ) → bound ≤ 1000000 → HasShortWalks bound g tree → (t w : ℕ) → asked_of g tree t w ≤ 1000000000000
+pub walk_most : (g : Digraph) → IsSoundGraph g → (tree : TreeClaim) (bound : ℕ) → bound ≤ most_time → HasShortWalks bound g tree → (t w : ℕ) → asked_of g tree t w ≤ 1000000000000
 walk_most g sound tree bound few short t w = go (cases_lt w (length tree.walks))
   where
     go : (w < length tree.walks) ⊎ (length tree.walks ≤ w) → asked_of g tree t w ≤ 1000000000000
@@ -66,15 +67,15 @@ walk_most g sound tree bound few short t w = go (cases_lt w (length tree.walks))
     go (inr l) = (let e = ap (asked g t) (get_or_past tree.walks w [] l) in omega (arith, e))
 
 -- The releases in order are ready to be taken in.
-pub rises_ready : (g : Digraph) → IsSoundGraph g → (tree : TreeClaim) (bound : ℕ) → bound ≤ 1000000 → HasShortWalks bound g tree → (rises sorted : List Rise) → AreRises g tree rises
+pub rises_ready : (g : Digraph) → IsSoundGraph g → (tree : TreeClaim) (bound : ℕ) → bound ≤ most_time → HasShortWalks bound g tree → (rises sorted : List Rise) → AreRises g tree rises
     → IsPermutation rises sorted → IsNonDecreasingBy (λ r. r.offset) sorted → AreReady (length tree.walks) sorted
 rises_ready g sound tree bound few short rises sorted are same order = record {
   order = order;
   places = All-permutation (λ (r : Rise). r.place < length tree.walks) rises sorted same are.places;
   most = λ p l. (let e = sum_by-IsPermutation (λ r. whole_rise p r) rises sorted same in
-      let f = early_sum 1000000 p rises are.offsets in
-      let h = are.values 1000000 p l in
-      let m = walk_most g sound tree bound few short 1000000 (get_or (leaf_order tree) p 0) in
+      let f = early_sum most_time p rises are.offsets in
+      let h = are.values most_time p l in
+      let m = walk_most g sound tree bound few short most_time (get_or (leaf_order tree) p 0) in
       omega (arith, e, f, h, m));
 }
 

@@ -1,5 +1,6 @@
 -- The releases of walks at places, and what they add up to.
 use Rattle.std.specs.Prelude.{◌≡◌, ℕ, ◌+◌, ◌<◌, ◌==◌, ◌&&◌, nat_lt, if◌then◌else◌, List, [], ◌∷◌, length, All, sum_by, slice_index_or}
+use Rattle.drt_model.specs.Limits.{most_time}
 use Rattle.drt_model.specs.Digraph.{Digraph}
 use Rattle.drt_model.specs.Walk.{gap, wcet}
 use Rattle.drt_claims.specs.declared.evidence.TreeClaim.{TreeClaim}
@@ -35,6 +36,6 @@ asked_at_place g tree t place = asked g t (slice_index_or tree.walks (slice_inde
 
 -- The releases are at the places of the walks and before 1,000,000, and add up to what the walks ask for.
 pub record AreRises (g : Digraph) (tree : TreeClaim) (rises : List Rise) : Type 0 where
-  pub offsets : All (λ r. r.offset < 1000000) rises
+  pub offsets : All (λ r. r.offset < most_time) rises
   pub places : All (λ r. r.place < length tree.walks) rises
   pub values : (t place : ℕ) → place < length tree.walks → risen_at_place rises t place ≡ asked_at_place g tree t place

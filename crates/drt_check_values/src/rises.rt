@@ -1,6 +1,7 @@
 //! The releases of a tree's walks, at the places of the walks.
 ghost use Rattle.std.specs.Prelude.{◌≡◌, ◌+◌, ◌*◌, ◌<◌, ◌≤◌, ◌++◌, All, IfOk, length, sum_by};
 ghost use Rattle.std.specs.List.Sorted.{IsNonDecreasingBy, IsPermutation};
+ghost use Rattle.drt_model.specs.Limits.{most_time};
 ghost use Rattle.drt_model.specs.Digraph.{vertex_count};
 ghost use Rattle.drt_claims.specs.Ranges.{IsCounted, IsInRangeTree};
 ghost use Rattle.drt_claims.specs.Trees.{HasShortWalks, IsShortWalk, IsTree};
@@ -28,7 +29,7 @@ pub(crate) fn rises_of(
     bound: u32,
     firsts: &[u32],
 ) -> Result<Vec<Rise>, Memory>
-    requires bound { bound ≤ 1000000 }
+    requires bound { bound ≤ most_time }
     requires short { HasShortWalks bound graph.now tree.now }
     requires tree { IsTree tree.now }
     requires ranges { IsInRangeTree tree.now }
@@ -72,7 +73,7 @@ fn add_rises(
     place: u32,
     rises: &mut Vec<Rise>,
 ) -> Result<(), Memory>
-    requires bound { bound ≤ 1000000 }
+    requires bound { bound ≤ most_time }
     requires walk { IsShortWalk bound graph.now walk.now }
     ensures { IfOk result (λ none. rises.new.items ≡ rises.old.items ++ rises_along graph.now place walk.now) }
 {

@@ -1,5 +1,6 @@
 //! The values of nodes at times, taken from rooms.
 ghost use Rattle.std.specs.Prelude.{◌≡◌, ◌+◌, ◌<◌, ◌≤◌, ◌↔◌, All, IfOk, IsTrue, length};
+ghost use Rattle.drt_model.specs.Limits.{most_time};
 ghost use Rattle.drt_model.specs.Digraph.{IsSoundGraph};
 ghost use Rattle.drt_claims.specs.Ranges.{IsInRangeTree};
 ghost use Rattle.drt_claims.specs.Trees.{HasShortWalks, IsTree};
@@ -28,7 +29,7 @@ pub fn take_values(
     queries: &[Query],
     rooms: &mut [u32],
 ) -> Result<bool, Memory>
-    requires bound { bound ≤ 1000000 }
+    requires bound { bound ≤ most_time }
     requires short { HasShortWalks bound graph.now tree.now }
     requires tree { IsTree tree.now }
     requires ranges { IsInRangeTree tree.now }

@@ -3,7 +3,7 @@ use Rattle.std.proofs.Common.{◌≡◌, ℕ, ◌+◌, ◌<◌, ◌≤◌, Bool,
 use Rattle.std.specs.Prelude.{nat_le, nat_lt, bytes_eq}
 use Rattle.std.specs.List.{AllByRecursion, AllZip, list_all, list_any}
 use Rattle.std.proofs.lemmas.List.{length-map}
-use Rattle.drt_model.specs.Limits.{IsName, IsTime}
+use Rattle.drt_model.specs.Limits.{IsName, IsTime, most_time}
 use Rattle.drt_file.specs.trusted.Words.{is_name, is_number, value, end_word}
 use Rattle.drt_file.specs.trusted.Line.{is_text, is_in_range}
 use Rattle.drt_file.specs.trusted.Reading.{Means}
@@ -85,10 +85,10 @@ not_true : (b : Bool) → b ≡ true → not b ≡ false
 not_true b e = rw e refl
 
 time_of : (word : List ℕ) → is_in_range word ≡ true → IsTime (value word)
-time_of word e = between 1 1000000 (value word) e
+time_of word e = between 1 most_time (value word) e
 
 range_of : (word : List ℕ) (n : ℕ) → value word ≡ n → IsTime n → is_in_range word ≡ true
-range_of word n e is = between_again 1 1000000 (value word) (omega (arith, e, is.0)) (omega (arith, e, is.1))
+range_of word n e is = between_again 1 most_time (value word) (omega (arith, e, is.0)) (omega (arith, e, is.1))
 
 not_past : (deadline sep : List ℕ) → is_past deadline sep ≡ false → value deadline ≤ value sep
 not_past deadline sep e = grind (arith, e)

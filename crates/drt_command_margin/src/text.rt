@@ -1,5 +1,6 @@
 //! The text of a margin.
 ghost use Rattle.std.specs.Prelude.{◌≡◌, ◌+◌, ◌++◌, ◌≤◌, IfOk, OnOk};
+ghost use Rattle.drt_model.specs.Limits.{most_time};
 ghost use Rattle.drt_file.specs.trusted.Canonical.{written_line};
 ghost use Rattle.drt_claims.specs.Ranges.{IsEvidenceInRange};
 ghost use Rattle.drt_evidence.specs.Text.{text};
@@ -78,7 +79,7 @@ fn push_dossier(
     evidence: Evidence,
 ) -> Result<TaskSet, Memory>
     requires vertex { IsVertexOf set.tasks spot.task spot.vertex }
-    requires limit { wcet_at set.tasks spot.task spot.vertex + add ≤ 1000000 }
+    requires limit { wcet_at set.tasks spot.task spot.vertex + add ≤ most_time }
     requires in_range { IsEvidenceInRange evidence }
     ensures same { IfOk result (λ same. same ≡ set) }
     ensures bytes { OnOk result (bytes.new.items ≡ bytes.old.items ++ text (with_evidence spot.policy set spot.task spot.vertex add evidence)) }

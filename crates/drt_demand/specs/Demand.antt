@@ -1,5 +1,6 @@
 -- Demand labels as values.
 use Rattle.std.specs.Prelude.{ℕ, ◌+◌, ◌*◌, ◌≤◌, Bool, true, ◌==◌, nat_le, ◌&&◌, replicate}
+use Rattle.drt_model.specs.Limits.{most_time}
 use Rattle.drt_label.specs.Algebra.{Algebra}
 use Rattle.drt_graph.specs.declared.front.FrontEntry.{FrontEntry}
 
@@ -41,4 +42,4 @@ demand_algebra = record {
 
 -- What the type of demand labels keeps: the offset and the work are within these limits.
 abbrev pub IsDemandWithinLimits : FrontEntry → Type 0
-IsDemandWithinLimits x = (x.offset ≤ greatest_bound + 1000000) × (x.work ≤ 1000000 * (x.offset + 1))
+IsDemandWithinLimits x = (x.offset ≤ greatest_bound + most_time) × (x.work ≤ most_time * (x.offset + 1))

@@ -2,6 +2,7 @@
 use Rattle.std.proofs.Common.{◌≡◌, ℕ, zero, suc, ◌+◌, ◌*◌, ◌%◌, ◌<◌, ◌≤◌, Bool, true, false, cond, eqb, ◌||◌, List, [], ◌∷◌, ◌⊎◌, inl, inr, refl, arith, mul-le-mul_left}
 use Rattle.std.proofs.Math.Nat.{mul-mod_left}
 use Rattle.std.proofs.lemmas.Bool.{cases_lt, eqb-false}
+use Rattle.drt_effort.specs.Efforts.{most_budget}
 use Rattle.drt_model.specs.Digraph.{Digraph}
 use Rattle.drt_graph.specs.Graphs.{AreGraphs}
 use Rattle.drt_ratio.specs.declared.ratio_proof.RatioProof.{RatioProof}
@@ -40,7 +41,7 @@ steps_least c cycle_turns some (suc t) = go (is_step (c ∷ cycle_turns) (suc t)
         by (inr m) = absurd (no_multiple c cycle_turns (suc t) (steps_to (c ∷ cycle_turns) t + 1) e (omega arith))
 
 -- A step time among so few is near, where a span is at most 100,000,000.
-near_step : (cycle_turns : List CycleTurn) → AreCycleTurns cycle_turns → (t budget : ℕ) → t < turned cycle_turns t → steps_to cycle_turns t ≤ budget → budget ≤ 1000000 → t ≤ 1000000000000000000
+near_step : (cycle_turns : List CycleTurn) → AreCycleTurns cycle_turns → (t budget : ℕ) → t < turned cycle_turns t → steps_to cycle_turns t ≤ budget → budget ≤ most_budget → t ≤ 1000000000000000000
 near_step [] are t budget over few most = let z = turned_none t in absurd (omega arith)
 near_step (c ∷ cycle_turns) are t budget over few most =
     let l = steps_least c cycle_turns are.0 t in
@@ -50,5 +51,5 @@ near_step (c ∷ cycle_turns) are t budget over few most =
 
 -- What a search for an overload finds is in range.
 pub overload_near : (graphs : List Digraph) (proofs : List RatioProof) → AreGraphs graphs → AreGiven graphs proofs
-    → (budget t : ℕ) → budget ≤ 1000000 → IsOverFound (cycle_turns_of graphs proofs) budget (Found t) → t ≤ 1000000000000000000
+    → (budget t : ℕ) → budget ≤ most_budget → IsOverFound (cycle_turns_of graphs proofs) budget (Found t) → t ≤ 1000000000000000000
 overload_near graphs proofs are given budget t most over = near_step (cycle_turns_of graphs proofs) (are_cycle_turns graphs proofs are.sound given) t budget over.1 over.3 most

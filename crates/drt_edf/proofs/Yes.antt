@@ -7,7 +7,7 @@ use Rattle.drt_model.specs.declared.tasks.Task.{Task}
 use Rattle.drt_model.specs.declared.jobs.Policy.TheVariants.{Edf}
 use Rattle.drt_model.specs.Constrained.{AreConstrained}
 use Rattle.drt_model.specs.Digraph.{Digraph, IsSoundGraph, vertex_count, out_degree, edge_of}
-use Rattle.drt_model.specs.Limits.{IsTaskSet}
+use Rattle.drt_model.specs.Limits.{IsTaskSet, most_time}
 use Rattle.drt_model.specs.Schedulable.{Schedulable}
 use Rattle.drt_model.specs.Walk.{wcet, deadline, gap, IsEdge, IsPath, last_of, work, span}
 use Rattle.drt_busy.specs.Choice.{AreWalks, AreDueBy, efforts}
@@ -164,7 +164,7 @@ is_yes holds decide version tasks is constrained graphs proofs given bound plan 
     }
 
 -- In plain numbers: the work of a walk that is short in time.
-short_work : (count spans work : ℕ) → spans ≤ 1099511627776 → count ≤ spans → work ≤ suc count * 1000000 → work ≤ 2000000000000000000
+short_work : (count spans work : ℕ) → spans ≤ 1099511627776 → count ≤ spans → work ≤ suc count * most_time → work ≤ 2000000000000000000
 short_work count spans work l m n = omega arith
 
 entry_in_range : (g : Digraph) (bound : ℕ) (e : FrontEntry) → IsSoundGraph g → bound ≤ 1099511627776 → IsWalkEntry g bound e → IsInRangeEntry e

@@ -3,6 +3,7 @@ use Rattle.std.proofs.Common.{inl, inr, ◌≡◌, ℕ, zero, suc, ◌+◌, ◌<
 use Rattle.std.specs.List.{AllZip}
 use Rattle.std.proofs.lemmas.Bool.{cases_Bool, eq-eqb, le-ltb, lt-ltb, ltb-false, ltb-true, ne_eqb}
 use Rattle.std.proofs.lemmas.List.{get_or_append_left, get_or_push}
+use Rattle.drt_model.specs.Limits.{most_time}
 use Rattle.drt_model.specs.declared.tasks.Task.{Task}
 use Rattle.drt_model.specs.Digraph.{Digraph, IsSoundGraph, vertex_count}
 use Rattle.drt_graph.specs.Graphs.{graph_of}
@@ -26,7 +27,7 @@ walk_there graphs (k ∷ order) (w ∷ walks) each (suc i) d l = walk_there grap
 
 module _ (tasks : List Task) (j v k : ℕ) where
   -- The walk of a task of higher priority, cut at a time.
-  pub beside_higher : IsSoundGraph (graph_at tasks k) → (task_at tasks k).priority < (task_at tasks j).priority → (d : ℕ) → d ≤ 1000000 → (w : List ℕ) → IsWalk (graph_at tasks k) w
+  pub beside_higher : IsSoundGraph (graph_at tasks k) → (task_at tasks k).priority < (task_at tasks j).priority → (d : ℕ) → d ≤ most_time → (w : List ℕ) → IsWalk (graph_at tasks k) w
       → IsBeside tasks j v k (cut (graph_at tasks k) d w)
   unfolding with_job
   beside_higher sound less d near w is =

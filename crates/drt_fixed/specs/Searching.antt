@@ -1,6 +1,7 @@
 -- What the searches of all vertices are given, and what they find.
 use Rattle.std.specs.Prelude.{◌≡◌, ℕ, ◌+◌, ◌<◌, ◌≤◌, List, Option, length, slice_index_or, take}
 use Rattle.std.specs.List.{All, AllZip}
+use Rattle.drt_model.specs.Limits.{most_time}
 use Rattle.drt_model.specs.declared.tasks.Task.{Task}
 use Rattle.drt_model.specs.Digraph.{Digraph, vertex_count}
 use Rattle.drt_model.specs.Walk.{deadline}
@@ -36,7 +37,7 @@ pub record IsVertexPlaced (g : Given) (v : PlacedVertex) : Type 0 where
   pub task : v.at.task < length g.set.now.tasks
   pub vertex : v.at.vertex < vertex_count (graph_of (graphs_given g) v.at.task)
   pub deadline : v.at.deadline ≡ deadline (graph_of (graphs_given g) v.at.task) v.at.vertex
-  pub near : v.at.deadline ≤ 1000000
+  pub near : v.at.deadline ≤ most_time
 
 -- There is one walk of each task at a place before the vertex's.
 abbrev pub AreHigher : Given → PlacedVertex → List (List ℕ) → Type 0

@@ -4,7 +4,7 @@ use Rattle.std.proofs.lemmas.Bool.{cases_Bool, eqb-true}
 use Rattle.std.proofs.lemmas.List.{length-map}
 use Rattle.drt_model.specs.declared.tasks.Task.{Task}
 use Rattle.drt_model.specs.Digraph.{Digraph, IsSoundGraph, digraph_of, vertex_count}
-use Rattle.drt_model.specs.Limits.{IsTaskSet}
+use Rattle.drt_model.specs.Limits.{IsTaskSet, most_time}
 use Rattle.drt_graph.specs.Graphs.{graph_of}
 use Rattle.drt_graph.proofs.Soundness.{all_sound}
 use Rattle.drt_busy.specs.Choice.{AreWalks, IsWalk, due_of, graph_at, no_task, task_at}
@@ -37,7 +37,7 @@ module _ (tasks : List Task) (walks : List (List ℕ)) (k v d : ℕ) where
   walk_nowhere i below other = rw (below, other) refl
 
   module _ (version : ℕ) (limits : IsTaskSet version tasks) (are : AreWalks tasks (placed_walk tasks (task_at tasks k).priority walks)) (here : k < length tasks)
-      (vertex : v < vertex_count (graph_at tasks k)) (small : d ≤ 1000000) where
+      (vertex : v < vertex_count (graph_at tasks k)) (small : d ≤ most_time) where
     higher_due : (i : ℕ) → i < length tasks → IsDueWalk (graph_at tasks i) 2000000 (cut (graph_at tasks i) d (placed_walk tasks (task_at tasks k).priority walks i))
     higher_due i l =
         let g : Digraph = graph_at tasks i in

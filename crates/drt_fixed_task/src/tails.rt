@@ -1,5 +1,6 @@
 //! The tails of the tasks of higher priority.
 ghost use Rattle.std.specs.Prelude.{ℕ, ◌<◌, ◌≤◌, IfOk, IfSome};
+ghost use Rattle.drt_model.specs.Limits.{most_time};
 ghost use Rattle.drt_model.specs.Digraph.{vertex_count};
 ghost use Rattle.drt_model.specs.Walk.{deadline};
 ghost use Rattle.drt_check_states.specs.Places.{AreTasks, graphs_at};
@@ -23,7 +24,7 @@ pub(crate) fn find_tails(
 ) -> Result<Option<Vec<TailClaim>>, Memory>
     requires tasks { AreTasks graphs.now tasks.now }
     requires some { 1 ≤ bound }
-    requires most { bound ≤ 1000000 }
+    requires most { bound ≤ most_time }
     ensures { IfOk result (λ found. IfSome found (λ tails. AreTails bound (graphs_at graphs.now tasks.now) tails.items)) }
 {
     let mut tails = Vec::new(alloc);
@@ -40,7 +41,7 @@ pub(crate) fn find_tails(
 /// The greatest deadline of a task's vertices, in ticks.
 pub(crate) fn latest_deadline(graph: &Graph) -> u32
     ensures some { 1 ≤ result }
-    ensures most { result ≤ 1000000 }
+    ensures most { result ≤ most_time }
     ensures bounds { (v : ℕ) → v < vertex_count graph.now → deadline graph.now v ≤ result }
 {
     let mut latest = 1;

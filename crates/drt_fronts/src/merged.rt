@@ -1,5 +1,6 @@
 //! Tasks whose walks are merged.
 ghost use Rattle.std.specs.Prelude.{◌≤◌, IfOk, IfSome};
+ghost use Rattle.drt_effort.specs.Efforts.{most_budget};
 ghost use Rattle.drt_model.specs.Digraph.{IsConstrainedGraph};
 ghost use Rattle.drt_claims.specs.Ranges.{IsCounted};
 ghost use Rattle.drt_fronts.specs.LabelFronts.{IsLabelFront};
@@ -19,7 +20,7 @@ pub fn merged_front(
 ) -> Result<Option<Row<FrontEntry>>, Memory>
     requires constrained { IsConstrainedGraph graph.now }
     requires bound { bound ≤ 1099511627776 }
-    requires few { budget ≤ 1000000 }
+    requires few { budget ≤ most_budget }
     ensures front { IfOk result (λ r. IfSome r (IsLabelFront graph.now bound)) }
     ensures counted { IfOk result (λ r. IfSome r IsCounted) }
 {

@@ -2,6 +2,7 @@
 use Rattle.std.proofs.Common.{◌≡◌, ℕ, zero, suc, ◌<◌, ◌≤◌, Bool, true, false, eqb, List, [], ◌∷◌, Some, None, length, get_or, drop, ◌⊎◌, inl, inr, refl, sym, ap, arith, ◌∙◌}
 use Rattle.std.proofs.lemmas.Bool.{eqb-true, cases_lt}
 use Rattle.std.proofs.lemmas.Bool.Decides.{nat_tests}
+use Rattle.drt_model.specs.Limits.{most_time}
 use Rattle.drt_model.specs.declared.tasks.Edge.{Edge}
 use Rattle.drt_model.specs.Digraph.{Digraph, IsSoundGraph, vertex_count, out_degree, out_edges, edge_of, no_edge}
 use Rattle.drt_model.specs.Walk.{sep_in, sep, or_zero, gap, IsEdge}
@@ -81,7 +82,7 @@ source_of g sound u v p e = go (cases_lt u (vertex_count g))
         absurd (none_none v p (rw none at e))
 
 -- An edge ends at one
-pub target_of : (g : Digraph) → IsSoundGraph g → (u v p : ℕ) → sep g u v ≡ Some p → (v < vertex_count g) × (1 ≤ p) × (p ≤ 1000000)
+pub target_of : (g : Digraph) → IsSoundGraph g → (u v p : ℕ) → sep g u v ≡ Some p → (v < vertex_count g) × (1 ≤ p) × (p ≤ most_time)
 target_of g sound u v p e =
     let k = edge_of_sep g u v p e in
     let l = source_of g sound u v p e in

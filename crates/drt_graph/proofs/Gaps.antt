@@ -1,6 +1,7 @@
 -- Separations and gaps.
 use Rattle.std.proofs.Common.{◌≡◌, ℕ, ◌≤◌, [], Some, None, refl, sym, ap, arith}
 use Rattle.std.proofs.lemmas.List.{get_or_past}
+use Rattle.drt_model.specs.Limits.{most_time}
 use Rattle.drt_model.specs.Digraph.{Digraph, IsSoundGraph, vertex_count, out_edges, no_vertex}
 use Rattle.drt_model.specs.Walk.{wcet, sep_in, sep, or_zero, gap, IsEdge}
 use Rattle.drt_graph.proofs.Edges.{target_of, gap_of}
@@ -17,7 +18,7 @@ pub idle_past : (g : Digraph) (v : ℕ) → vertex_count g ≤ v → 0 ≡ wcet 
 idle_past g v l = sym (ap (λ x. x.wcet) (get_or_past g.vertices v no_vertex l))
 
 -- The gap is the separation, and of an edge it is at most 1,000,000.
-pub gap_some : (g : Digraph) → IsSoundGraph g → (u v p : ℕ) → Some p ≡ sep g u v → (p ≡ gap g u v) × (p ≤ 1000000)
+pub gap_some : (g : Digraph) → IsSoundGraph g → (u v p : ℕ) → Some p ≡ sep g u v → (p ≡ gap g u v) × (p ≤ most_time)
 gap_some g sound u v p e = (sym (gap_of g u v p (sym e)).0, (target_of g sound u v p (sym e)).2)
 
 -- Where there is no separation, the gap is 0, and there is no edge.

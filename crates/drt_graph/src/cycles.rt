@@ -1,5 +1,6 @@
 //! Cycles of a graph, what they sum to, and whether one has a ratio.
 ghost use Rattle.std.specs.Prelude.{◌≡◌, ◌*◌, ◌<◌, ◌≤◌, ◌↔◌, IsTrue, length};
+ghost use Rattle.drt_model.specs.Limits.{most_time};
 ghost use Rattle.drt_model.specs.Digraph.{vertex_count};
 ghost use Rattle.drt_model.specs.Walk.{wcet, sep, gap, IsEdge, IsCycle, work, cycle_span};
 ghost use Rattle.drt_graph.specs.RatioRules.{IsClosedCycle, IsTight};
@@ -9,7 +10,7 @@ use crate::graph::Graph;
 // The execution time of a vertex, and 0 past the last one.
 fn wcet_of(graph: &Graph, v: u32) -> u32
     ensures value { result ≡ wcet graph.now v }
-    ensures most { result ≤ 1000000 }
+    ensures most { result ≤ most_time }
 {
     if v < graph.vertex_count() {
         graph.vertex(v).wcet
@@ -42,7 +43,7 @@ fn is_edge(graph: &Graph, u: u32, v: u32) -> bool
 // The separation of the edge from `u` to `v`, and 0 where there is none.
 fn gap_of(graph: &Graph, u: u32, v: u32) -> u32
     ensures value { result ≡ gap graph.now u v }
-    ensures most { result ≤ 1000000 }
+    ensures most { result ≤ most_time }
 {
     let _count = graph.vertex_count();
     match separation(graph, u, v) {
@@ -73,8 +74,8 @@ pub fn cycle_sums(graph: &Graph, cycle: &[u32]) -> (u128, u128)
     requires { 0 < length cycle.now }
     ensures work { result.0 ≡ work graph.now cycle.now }
     ensures span { result.1 ≡ cycle_span graph.now cycle.now }
-    ensures work_most { result.0 ≤ length cycle.now * 1000000 }
-    ensures span_most { result.1 ≤ length cycle.now * 1000000 }
+    ensures work_most { result.0 ≤ length cycle.now * most_time }
+    ensures span_most { result.1 ≤ length cycle.now * most_time }
 {
     let mut work: u128 = 0;
     let mut span: u128 = 0;

@@ -1,5 +1,6 @@
 //! The search for an overload.
 ghost use Rattle.std.specs.Prelude.{◌≤◌, length};
+ghost use Rattle.drt_effort.specs.Efforts.{most_budget};
 ghost use Rattle.drt_horizon.specs.Given.{AreGiven};
 ghost use Rattle.drt_horizon.specs.Plans.{IsPlannedAboveOne};
 ghost use Rattle.drt_horizon.specs.CycleTurns.{AreCycleTurns, IsOverFound, cycle_turns_of};
@@ -15,7 +16,7 @@ fn search(cycle_turns: &[CycleTurn], budget: u64) -> Over
     requires some { 1 ≤ length cycle_turns.now }
     requires few { length cycle_turns.now ≤ 32 }
     requires budget_some { 1 ≤ budget }
-    requires budget_few { budget ≤ 1000000 }
+    requires budget_few { budget ≤ most_budget }
     ensures { IsOverFound cycle_turns.now budget result }
 {
     let mut t = 0;
@@ -36,7 +37,7 @@ pub fn overload(graphs: &Graphs, proofs: &[RatioProof], budget: u64) -> Over
     requires given { AreGiven graphs.now proofs.now }
     requires above { IsPlannedAboveOne graphs.now proofs.now }
     requires budget_some { 1 ≤ budget }
-    requires budget_few { budget ≤ 1000000 }
+    requires budget_few { budget ≤ most_budget }
     ensures { IsOverFound (cycle_turns_of graphs.now proofs.now) budget result }
 {
     let mut cycle_turns = [CycleTurn { work: 0, span: 0 }; 32];

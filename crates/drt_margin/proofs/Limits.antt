@@ -8,7 +8,7 @@ use Rattle.std.proofs.lemmas.List.Elements.{All-set}
 use Rattle.std.proofs.lemmas.Option.{get_or_from_slice_get, slice_get_within, slice_get-get_or, slice_get_past}
 use Rattle.drt_model.specs.Constrained.{AreConstrained, IsConstrainedEdge}
 use Rattle.drt_model.specs.Digraph.{no_vertex, vertex_count}
-use Rattle.drt_model.specs.Limits.{IsEdgeAmong, IsTask, IsTaskSet, IsTime, IsVertex}
+use Rattle.drt_model.specs.Limits.{IsEdgeAmong, IsTask, IsTaskSet, IsTime, IsVertex, most_time}
 use Rattle.drt_model.specs.declared.tasks.Edge.{Edge}
 use Rattle.drt_model.specs.declared.tasks.Task.{Task}
 use Rattle.drt_model.specs.declared.tasks.Vertex.{Vertex}
@@ -76,14 +76,14 @@ pub wcet_most : (version : ℕ) (tasks : List Task) (k v : ℕ) → IsTaskSet ve
 wcet_most version tasks k v is l m = ((is.each k no_task l).vertices v no_vertex m).wcet
 
 -- So the limits bound what may be added.
-pub plus_most : (version : ℕ) (tasks : List Task) (k v c : ℕ) → k < length tasks → v < vertex_count (graph_at tasks k) → IsTaskSet version (plus tasks k v c) → wcet_at tasks k v + c ≤ 1000000
+pub plus_most : (version : ℕ) (tasks : List Task) (k v c : ℕ) → k < length tasks → v < vertex_count (graph_at tasks k) → IsTaskSet version (plus tasks k v c) → wcet_at tasks k v + c ≤ most_time
 plus_most version tasks k v c l m is =
     let e = wcet_at tasks k v + c in
     let within = wcet_most version (plus tasks k v c) k v is (omega (arith, timed_length tasks k v e)) (timed_within tasks k v e l m) in
     omega (arith, within.1, timed_wcet tasks k v e l m)
 
 -- And what is at most that may be added.
-pub plus_kept : (version : ℕ) (tasks : List Task) (k v c : ℕ) → IsTaskSet version tasks → k < length tasks → v < vertex_count (graph_at tasks k) → wcet_at tasks k v + c ≤ 1000000 → IsTaskSet version (plus tasks k v c)
+pub plus_kept : (version : ℕ) (tasks : List Task) (k v c : ℕ) → IsTaskSet version tasks → k < length tasks → v < vertex_count (graph_at tasks k) → wcet_at tasks k v + c ≤ most_time → IsTaskSet version (plus tasks k v c)
 plus_kept version tasks k v c is l m few =
     let some = (wcet_most version tasks k v is l m).0 in
     timed_kept version tasks k v (wcet_at tasks k v + c) is l m (omega arith, few)

@@ -1,5 +1,6 @@
 -- A room between a number that is within and one that isn't: how it opens, gets smaller, and what it gives at last.
 use Rattle.std.proofs.Common.{◌≡◌, ℕ, ◌+◌, ◌-◌, ◌<◌, ◌≤◌, Some, None, ap, subst, arith}
+use Rattle.drt_model.specs.Limits.{most_time}
 use Rattle.drt_model.specs.Contents.{Contents}
 use Rattle.drt_model.specs.declared.jobs.Policy.{Policy}
 use Rattle.drt_claims.specs.declared.evidence.Evidence.{Evidence}
@@ -25,7 +26,7 @@ pub none_more : (set : Contents) (k v : ℕ) → plus_set set k v 0 ≡ set
 none_more set k v = ap (λ ts. record { version = set.version; tasks = ts }) (plus_none set.tasks k v)
 
 module _ (set : Contents) (policy : Policy) (k v : ℕ) (s : IsSubject set k v) where
-  few_ticks : wcet_at set.tasks k v + 0 ≤ 1000000
+  few_ticks : wcet_at set.tasks k v + 0 ≤ most_time
   few_ticks = omega (arith, (wcet_most set.version set.tasks k v s.limits s.vertex.0 s.vertex.1).1)
 
   -- Where S is a yes, 0 is within.
@@ -37,7 +38,7 @@ module _ (set : Contents) (policy : Policy) (k v : ℕ) (s : IsSubject set k v) 
   in_time evidence shown = opens_in_time set k v s policy (none_within evidence shown)
 
   -- The room at first.
-  pub room_opens : (evidence : Evidence) → deadline_at set.tasks k v ≤ 1000000 → IsYesFor policy (plus_set set k v 0) evidence
+  pub room_opens : (evidence : Evidence) → deadline_at set.tasks k v ≤ most_time → IsYesFor policy (plus_set set k v 0) evidence
       → IsHalvingRoom set policy k v (record { low = 0; high = deadline_at set.tasks k v - wcet_at set.tasks k v + 1; within = evidence; past = None })
   room_opens evidence few evident =
       let some = (wcet_most set.version set.tasks k v s.limits s.vertex.0 s.vertex.1).0 in
@@ -60,7 +61,7 @@ module _ (set : Contents) (policy : Policy) (k v : ℕ) (s : IsSubject set k v) 
     pub between_both : 1 < room.high - room.low → (room.low < middle room.low room.high) × (middle room.low room.high < room.high)
     between_both wide = (omega arith, omega arith)
 
-    pub middle_few : 1 < room.high - room.low → wcet_at set.tasks k v + middle room.low room.high ≤ 1000000
+    pub middle_few : 1 < room.high - room.low → wcet_at set.tasks k v + middle room.low room.high ≤ most_time
     middle_few wide = omega (arith, is.limit, (between_both wide).1)
 
     -- It was tried.
@@ -117,7 +118,7 @@ module _ (set : Contents) (policy : Policy) (k v : ℕ) (s : IsSubject set k v) 
         }
 
 -- The least number that isn't within is tried where the limits allow.
-pub least_reached : (set : Contents) (policy : Policy) (k v high : ℕ) → IsLeast set policy k v high → wcet_at set.tasks k v + high ≤ 1000000 → IsNumberReached set policy k v high
+pub least_reached : (set : Contents) (policy : Policy) (k v high : ℕ) → IsLeast set policy k v high → wcet_at set.tasks k v + high ≤ most_time → IsNumberReached set policy k v high
 least_reached set policy k v high is few = record { tried = last is.low high is.first is.halves is.near few; limit = few }
 
 -- What is shown of the number after the margin makes the answer.

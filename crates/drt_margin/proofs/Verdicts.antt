@@ -1,5 +1,6 @@
 -- What the evidence of an answer says of which numbers are within.
 use Rattle.std.proofs.Common.{◌≡◌, ℕ, ◌+◌, ◌≤◌, Some, None, sym, subst}
+use Rattle.drt_model.specs.Limits.{most_time}
 use Rattle.drt_model.specs.Contents.{Contents}
 use Rattle.drt_model.specs.Schedulable.{Schedulable}
 use Rattle.drt_model.specs.declared.jobs.Policy.{Policy}
@@ -47,7 +48,7 @@ below_under policy set evidence kind is e = yes_below set evidence kind (subst (
 
 module _ (set : Contents) (k v : ℕ) (s : IsSubject set k v) where
   -- A yes for S + c says that c is within.
-  pub yes_within : (policy : Policy) (c : ℕ) (evidence : Evidence) → wcet_at set.tasks k v + c ≤ 1000000 → IsYesFor policy (plus_set set k v c) evidence → IsWithinMargin set policy k v c
+  pub yes_within : (policy : Policy) (c : ℕ) (evidence : Evidence) → wcet_at set.tasks k v + c ≤ most_time → IsYesFor policy (plus_set set k v c) evidence → IsWithinMargin set policy k v c
   yes_within policy c evidence few shown = record {
     limits = plus_kept set.version set.tasks k v c s.limits s.vertex.0 s.vertex.1 few;
     schedulable = yes_schedulable policy (plus_set set k v c) evidence shown.kind shown.verdict;

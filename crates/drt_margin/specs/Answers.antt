@@ -1,5 +1,6 @@
 -- What the answer of `margin` says.
 use Rattle.std.specs.Prelude.{◌≡◌, ℕ, ◌+◌, ◌<◌, ◌≤◌}
+use Rattle.drt_model.specs.Limits.{most_time}
 use Rattle.drt_model.specs.Contents.{Contents}
 use Rattle.drt_model.specs.declared.jobs.Policy.{Policy}
 use Rattle.drt_model.specs.declared.jobs.Policy.TheVariants.{Edf, Fixed}
@@ -65,20 +66,20 @@ IsSpentUnder Fixed set budget (trails.Fixed trail) = sp.IsTreeUndecided set budg
 -- What is shown of S + c, where c is one more than the margin: evidence that isn't a yes, or that the execution time would exceed
 -- 1,000,000.
 abbrev pub IsNextShown : Contents → Policy → ℕ → ℕ → ℕ → Next → Type 0
-IsNextShown set policy k v c (Shown evidence) = (wcet_at set.tasks k v + c ≤ 1000000) × IsOtherFor policy (plus_set set k v c) evidence
-IsNextShown set policy k v c Limit = 1000000 < wcet_at set.tasks k v + c
+IsNextShown set policy k v c (Shown evidence) = (wcet_at set.tasks k v + c ≤ most_time) × IsOtherFor policy (plus_set set k v c) evidence
+IsNextShown set policy k v c Limit = most_time < wcet_at set.tasks k v + c
 
 -- The margin, the evidence of S with it, and what is shown of S with one tick more.
 pub record IsFoundMargin (set : Contents) (policy : Policy) (k v add : ℕ) (within : Evidence) (next : Next) : Type 0 where
   pub margin : IsMargin set policy k v add
-  pub limit : wcet_at set.tasks k v + add ≤ 1000000
+  pub limit : wcet_at set.tasks k v + add ≤ most_time
   pub yes : IsYesFor policy (plus_set set k v add) within
   pub shows : IsNextShown set policy k v (add + 1) next
 
 -- The number was tried, and S with it is within the limits.
 pub record IsNumberReached (set : Contents) (policy : Policy) (k v add : ℕ) : Type 0 where
   pub tried : IsNumberTried set policy k v add
-  pub limit : wcet_at set.tasks k v + add ≤ 1000000
+  pub limit : wcet_at set.tasks k v + add ≤ most_time
 
 -- Under EDF, the numbers of S with a number that was tried are out of reach.
 pub record IsBeyondAt (set : Contents) (policy : Policy) (k v add : ℕ) (beyond : Beyond) : Type 0 where

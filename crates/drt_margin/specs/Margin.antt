@@ -3,7 +3,7 @@ use Rattle.std.specs.Prelude.{◌≡◌, ℕ, ◌+◌, ◌-◌, ◌/◌, ◌<◌
 use Rattle.drt_model.specs.Constrained.{AreConstrained}
 use Rattle.drt_model.specs.Contents.{Contents}
 use Rattle.drt_model.specs.Digraph.{no_vertex, vertex_count}
-use Rattle.drt_model.specs.Limits.{IsTaskSet}
+use Rattle.drt_model.specs.Limits.{IsTaskSet, most_time}
 use Rattle.drt_model.specs.Schedulable.{Schedulable}
 use Rattle.drt_model.specs.Utilisation.{rate}
 use Rattle.drt_model.specs.Walk.{deadline, wcet}
@@ -83,7 +83,7 @@ pub data Halves (set : Contents) (policy : Policy) (k v : ℕ) : ℕ → ℕ →
 pub data IsNumberTried (set : Contents) (policy : Policy) (k v : ℕ) : ℕ → Type 0 where
   first : IsNumberTried set policy k v 0
   between : (low high : ℕ) → IsWithinMargin set policy k v 0 → Halves set policy k v low high → 1 < high - low → IsNumberTried set policy k v (middle low high)
-  last : (low high : ℕ) → IsWithinMargin set policy k v 0 → Halves set policy k v low high → high - low ≤ 1 → wcet_at set.tasks k v + high ≤ 1000000 → IsNumberTried set policy k v high
+  last : (low high : ℕ) → IsWithinMargin set policy k v 0 → Halves set policy k v low high → high - low ≤ 1 → wcet_at set.tasks k v + high ≤ most_time → IsNumberTried set policy k v high
 
 -- In a set with constrained deadlines, a smaller number than one that is within is within.
 abbrev pub SmallerIsWithin : Type 0

@@ -2,7 +2,7 @@
 use Rattle.std.specs.Prelude.{◌≡◌, ℕ, ◌+◌, ◌-◌, ◌<◌, ◌≤◌, All, IfSome, List, None, Some, slice_index, slice_index_or}
 use Rattle.drt_model.specs.Contents.{Contents}
 use Rattle.drt_model.specs.Constrained.{AreConstrained}
-use Rattle.drt_model.specs.Limits.{IsTaskSet}
+use Rattle.drt_model.specs.Limits.{IsTaskSet, most_time}
 use Rattle.drt_model.specs.declared.jobs.Policy.{Policy}
 use Rattle.drt_model.specs.declared.jobs.Policy.TheVariants.{Edf}
 use Rattle.drt_edf.specs.Answers.{IsBeyond}
@@ -38,7 +38,7 @@ IsFinding policy set budget (findings.Undecided trail) = IsSpentUnder policy set
 
 -- S with so many ticks more keeps the limit of an execution time, for each of these numbers.
 abbrev pub AreAskable : Contents → Question → List ℕ → Type 0
-AreAskable set q numbers = All (λ add. wcet_at set.tasks q.task q.vertex + add ≤ 1000000) numbers
+AreAskable set q numbers = All (λ add. wcet_at set.tasks q.task q.vertex + add ≤ most_time) numbers
 
 -- What was found ahead, with a budget, is said of S with so many ticks more as the number at its place.
 abbrev pub AreNumbersAhead : Contents → Question → ℕ → Ahead → Type 0
@@ -50,7 +50,7 @@ AreNumbersAhead set q budget ahead =
 -- tried.
 pub record IsHalvingRoom (set : Contents) (policy : Policy) (k v : ℕ) (room : Room) : Type 0 where
   pub order : room.low < room.high
-  pub most : room.high ≤ 1000000
+  pub most : room.high ≤ most_time
   pub limit : wcet_at set.tasks k v + room.high ≤ 1000001
   pub halves : Halves set policy k v room.low room.high
   pub is_in : IsWithinMargin set policy k v room.low

@@ -1,5 +1,6 @@
 //! Numbers that workers ask about ahead, side by side.
 ghost use Rattle.std.specs.Prelude.{◌≡◌, ℕ, ◌+◌, ◌<◌, ◌≤◌, All, IfOk, IfSome, None, Some, length, slice_index, slice_index_or};
+ghost use Rattle.drt_model.specs.Limits.{most_time};
 ghost use denote.Param.Send.{IsSync};
 ghost use Rattle.drt_model.specs.Contents.{Contents};
 ghost use Rattle.drt_margin.specs.Margin.{plus_set, wcet_at};
@@ -74,7 +75,7 @@ pub(crate) fn take_or_ask<G: Gate, R: Threads + Wait + Sync>(
     ahead: &mut Ahead,
 ) -> Result<(TaskSet, Finding), Memory>
     requires asked { IsAsked set question }
-    requires limit { wcet_at set.tasks question.task question.vertex + add ≤ 1000000 }
+    requires limit { wcet_at set.tasks question.task question.vertex + add ≤ most_time }
     requires ahead { AreNumbersAhead set question crew.now.effort.budget ahead.old }
     ensures same { IfOk result (λ r. r.0 ≡ set) }
     ensures finding { IfOk result (λ r. IsFinding question.policy (plus_set set question.task question.vertex add) crew.now.effort.budget r.1) }
@@ -167,7 +168,7 @@ fn ask_copy<G: Gate, R: Threads + Wait + Sync>(
     add: u32,
 ) -> Result<Finding, Memory>
     requires asked { IsAsked set.now question }
-    requires limit { wcet_at set.now.tasks question.task question.vertex + add ≤ 1000000 }
+    requires limit { wcet_at set.now.tasks question.task question.vertex + add ≤ most_time }
     ensures { IfOk result (IsFinding question.policy (plus_set set.now question.task question.vertex add) crew.now.effort.budget) }
 {
     let (_, finding) = ask(crew, copy_of(crew.alloc, set)?, question, add)?;

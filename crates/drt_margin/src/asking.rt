@@ -1,5 +1,6 @@
 //! One set, asked of the analysis of its policy.
 ghost use Rattle.std.specs.Prelude.{◌≡◌, ℕ, ◌+◌, ◌≤◌, ◌↔◌, IfOk, IsTrue};
+ghost use Rattle.drt_model.specs.Limits.{most_time};
 ghost use Rattle.drt_model.specs.Constrained.{AreConstrained};
 ghost use Rattle.drt_model.specs.Contents.{Contents};
 ghost use Rattle.drt_model.specs.declared.jobs.Policy.{Policy};
@@ -47,7 +48,7 @@ pub fn ask<G: Gate, R: Threads + Wait + Sync>(
     add: u32,
 ) -> Result<(TaskSet, Finding), Memory>
     requires asked { IsAsked set question }
-    requires limit { wcet_at set.tasks question.task question.vertex + add ≤ 1000000 }
+    requires limit { wcet_at set.tasks question.task question.vertex + add ≤ most_time }
     ensures same { IfOk result (λ r. r.0 ≡ set) }
     ensures finding { IfOk result (λ r. IsFinding question.policy (plus_set set question.task question.vertex add) crew.now.effort.budget r.1) }
 {

@@ -1,5 +1,6 @@
 //! The numbers that halving may ask about next.
 ghost use Rattle.std.specs.Prelude.{◌<◌, ◌≤◌, All, IfOk, length};
+ghost use Rattle.drt_model.specs.Limits.{most_time};
 
 use drt_model::Memory;
 use std::alloc::Global;
@@ -19,7 +20,7 @@ pub(crate) fn next_middles(
     most: usize,
 ) -> Result<Vec<u32>, Memory>
     requires order { low < high }
-    requires few { high ≤ 1000000 }
+    requires few { high ≤ most_time }
     ensures below { IfOk result (λ middles. All (λ m. m < high) middles.items) }
     ensures count { IfOk result (λ middles. length middles.items ≤ most) }
 {

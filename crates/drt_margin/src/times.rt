@@ -2,7 +2,7 @@
 ghost use Rattle.std.specs.Prelude.{◌≡◌, ◌+◌, ◌-◌, ◌<◌, ◌≤◌, length, slice_index_or, slice_set};
 ghost use Rattle.drt_model.specs.Contents.{Contents};
 ghost use Rattle.drt_model.specs.Digraph.{no_vertex};
-ghost use Rattle.drt_model.specs.Limits.{IsTaskSet, IsTime};
+ghost use Rattle.drt_model.specs.Limits.{IsTaskSet, IsTime, most_time};
 ghost use Rattle.drt_margin.specs.Margin.{IsVertexOf, deadline_at, plus_set, timed, timed_set, timed_task, timed_tasks, wcet_at};
 
 use drt_model::{Row, Task, TaskSet, Vertex};
@@ -52,7 +52,7 @@ pub fn with_wcet(alloc: Global, set: TaskSet, task: u32, vertex: u32, wcet: u32)
 /// The set with so many ticks more of the vertex. It takes no memory.
 pub fn with_more(alloc: Global, set: TaskSet, task: u32, vertex: u32, add: u32) -> TaskSet
     requires vertex { IsVertexOf set.tasks task vertex }
-    requires limit { wcet_at set.tasks task vertex + add ≤ 1000000 }
+    requires limit { wcet_at set.tasks task vertex + add ≤ most_time }
     ensures { result ≡ plus_set set task vertex add }
 {
     let wcet = wcet_of(&set, task, vertex);

@@ -1,5 +1,6 @@
 -- The marks of each vertex.
 use Rattle.std.specs.Prelude.{◌≡◌, ℕ, ◌+◌, ◌*◌, ◌<◌, ◌≤◌, List, [], length, slice_index_or, Option, Some, None}
+use Rattle.drt_model.specs.Limits.{most_time}
 use Rattle.drt_model.specs.Digraph.{Digraph, vertex_count}
 use Rattle.drt_model.specs.Walk.{wcet, deadline}
 use Rattle.drt_graph.specs.declared.front.FrontEntry.{FrontEntry}
@@ -39,7 +40,7 @@ pub record IsCovered (marks : List Mark) (m : Mark) : Type 0 where
 
 -- The work is at most 1,000,000 for each tick of the offset and one more.
 abbrev pub IsSmallMark : Mark → Type 0
-IsSmallMark m = m.work ≤ 1000000 * (m.offset + 1)
+IsSmallMark m = m.work ≤ most_time * (m.offset + 1)
 
 -- The label that has this mark.
 abbrev pub entry_of : ℕ → Mark → FrontEntry

@@ -1,5 +1,6 @@
 //! The front of a task's walks.
 ghost use Rattle.std.specs.Prelude.{◌≡◌, ◌*◌, ◌<◌, ◌≤◌, true, IfOk, IfSome, length};
+ghost use Rattle.drt_effort.specs.Efforts.{most_budget};
 ghost use Rattle.drt_model.specs.Digraph.{IsConstrainedGraph, vertex_count};
 ghost use Rattle.drt_merge.specs.Arcs.{AreArcs};
 ghost use Rattle.drt_merge.specs.Marks.{AreRows, AreOpenedTo};
@@ -93,7 +94,7 @@ fn take_all(
     patience: Patience,
 ) -> Result<bool, Memory>
     requires bound { walks.bound ≤ 1099511627776 }
-    requires few { budget ≤ 1000000 }
+    requires few { budget ≤ most_budget }
     requires steps { spent ≤ budget }
     requires arcs { AreArcs walks.graph.now walks.arcs.now }
     requires count { length walks.arcs.now ≤ 65535 }
@@ -135,7 +136,7 @@ fn finish(
     patience: Patience,
 ) -> Result<bool, Memory>
     requires bound { walks.bound ≤ 1099511627776 }
-    requires few { budget ≤ 1000000 }
+    requires few { budget ≤ most_budget }
     requires steps { spent ≤ budget }
     requires arcs { AreArcs walks.graph.now walks.arcs.now }
     requires count { length walks.arcs.now ≤ 65535 }
@@ -166,7 +167,7 @@ fn merge(
     patience: Patience,
 ) -> Result<Option<Lists>, Memory>
     requires bound { bound ≤ 1099511627776 }
-    requires few { budget ≤ 1000000 }
+    requires few { budget ≤ most_budget }
     requires steps { opened.spent ≤ budget }
     requires rows { AreRows graph.now bound opened.lists }
     requires opened { AreOpenedTo graph.now bound (vertex_count graph.now) opened.lists }
@@ -207,7 +208,7 @@ pub fn merged_front(
 ) -> Result<Option<Row<FrontEntry>>, Memory>
     requires constrained { IsConstrainedGraph graph.now }
     requires bound { bound ≤ 1099511627776 }
-    requires few { budget ≤ 1000000 }
+    requires few { budget ≤ most_budget }
     ensures { IfOk result (λ r. IfSome r (IsMergedFront graph.now bound)) }
 {
     let count = graph.vertex_count();

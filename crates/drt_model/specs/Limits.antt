@@ -27,13 +27,21 @@ pub record IsName (name : List ℕ) : Type 0 where
   pub at_most_32 : length name ≤ 32
   pub bytes : All IsNameByte name
 
+-- The greatest time of a file, in ticks.
+abbrev pub most_time : ℕ
+most_time = 1000000
+
 -- An execution time, a deadline or a separation is 1 to 1,000,000 ticks.
 abbrev pub IsTime : ℕ → Type 0
-IsTime t = (1 ≤ t) × (t ≤ 1000000)
+IsTime t = (1 ≤ t) × (t ≤ most_time)
+
+-- The greatest priority of a file.
+abbrev pub most_priority : ℕ
+most_priority = 1000000
 
 -- A priority is 1 to 1,000,000.
 abbrev pub IsPriority : ℕ → Type 0
-IsPriority n = (1 ≤ n) × (n ≤ 1000000)
+IsPriority n = (1 ≤ n) × (n ≤ most_priority)
 
 -- A vertex has a name, an execution time and a deadline.
 pub record IsVertex (v : Vertex) : Type 0 where

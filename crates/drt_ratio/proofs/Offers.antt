@@ -3,6 +3,7 @@ use Rattle.std.proofs.Common.{◌≡◌, ℕ, ◌+◌, ◌-◌, ◌*◌, ◌<◌
 use Rattle.std.proofs.lemmas.Bool.{cases_eq}
 use Rattle.std.proofs.lemmas.Nat.{mul-le}
 use Rattle.std.proofs.lemmas.List.{get_or-set_same, get_or-set_other}
+use Rattle.drt_model.specs.Limits.{most_time}
 use Rattle.drt_model.specs.Digraph.{Digraph, IsSoundGraph, vertex_count, out_degree, edge_of}
 use Rattle.drt_model.specs.Walk.{sep, wcet}
 use Rattle.drt_graph.proofs.Edges.{source_of, gap_of}
@@ -17,7 +18,7 @@ raised_below g a b top low high sound small is below v l = go (is.comes v l)
     go (inl e) = omega (arith, below v l, e)
     go (inr h) =
         let at = source_of g sound (get_or high.from v 0) v _ h.edge in
-        omega (arith, below (get_or high.from v 0) at, h.sum, mul-le b (wcet g v) 100000000 1000000 small (sound.wcet v l).1)
+        omega (arith, below (get_or high.from v 0) at, h.sum, mul-le b (wcet g v) 100000000 most_time small (sound.wcet v l).1)
 
 other_comes : (g : Digraph) (a b : ℕ) (low : Level) (u w h x y : ℕ) → Comes g a b low u w h → x ≡ u → y ≡ h → Comes g a b low x w y
 other_comes g a b low u w h x y is e f = rw (e, f) is
@@ -43,7 +44,7 @@ raise_one g a b low high u v p is edge l m more = record {
 
 -- The loss by one edge.
 pub loss_small : (g : Digraph) (a u k : ℕ) → IsSoundGraph g → a ≤ 100000000 → u < vertex_count g → k < out_degree g u → a * (edge_of g u k).sep ≤ 100000000000000
-loss_small g a u k sound small l m = mul-le a (edge_of g u k).sep 100000000 1000000 small (sound.sep u k l m).1
+loss_small g a u k sound small l m = mul-le a (edge_of g u k).sep 100000000 most_time small (sound.sep u k l m).1
 
 pub raise_with : (g : Digraph) (a b : ℕ) (low high : Level) (u v p w : ℕ) → IsRaised g a b low high → sep g u v ≡ Some p → w ≡ wcet g v → v < length high.heights → v < length high.from → get_or high.heights v 0 + a * p < get_or low.heights u 0 + b * w → IsRaised g a b low (record { heights = set high.heights v (get_or low.heights u 0 + b * w - a * p); from = set high.from v u })
 raise_with g a b low high u v p w is edge e l m more = rw e (raise_one g a b low high u v p is edge l m (rw e at more))

@@ -4,6 +4,7 @@ use Rattle.std.proofs.lemmas.Bool.{cases_lt}
 use Rattle.std.proofs.lemmas.Nat.{mul-le, le-div}
 use Rattle.std.proofs.Math.Nat.{div-mul-le_self, div-le_self, le_trans}
 use Rattle.std.proofs.lemmas.Int.{ints}
+use Rattle.drt_model.specs.Limits.{most_time}
 use Rattle.drt_model.specs.Digraph.{Digraph, IsSoundGraph, vertex_count}
 use Rattle.drt_model.specs.Walk.{sep, gap, wcet, IsEdge, IsPath, last_of, work, span, IsCycle, cycle_span}
 use Rattle.drt_graph.proofs.Edges.{target_of, source_of, gap_of}
@@ -17,9 +18,9 @@ use Rattle.drt_ratio.proofs.Loops.{IsMost, round_edge}
 -- The sums of a path are at least its edges, and at most a million each.
 pub record AreSums (g : Digraph) (u : ℕ) (vs : List ℕ) : Type 0 where
   pub work_least : length vs ≤ work g vs
-  pub work_most : work g vs ≤ length vs * 1000000
+  pub work_most : work g vs ≤ length vs * most_time
   pub span_least : length vs ≤ span g u vs
-  pub span_most : span g u vs ≤ length vs * 1000000
+  pub span_most : span g u vs ≤ length vs * most_time
 
 pub path_sums : (g : Digraph) → IsSoundGraph g → (u : ℕ) (vs : List ℕ) → IsPath g u vs → AreSums g u vs
 path_sums g sound u [] path = record { work_least = omega arith; work_most = rw work_none (omega arith); span_least = omega arith; span_most = rw span_none (omega arith) }
@@ -36,9 +37,9 @@ path_sums g sound u (v ∷ vs) path =
 
 pub record AreCycleSums (g : Digraph) (cs : List ℕ) : Type 0 where
   pub work_some : 1 ≤ work g cs
-  pub work_most : work g cs ≤ length cs * 1000000
+  pub work_most : work g cs ≤ length cs * most_time
   pub span_some : 1 ≤ cycle_span g cs
-  pub span_most : cycle_span g cs ≤ length cs * 1000000
+  pub span_most : cycle_span g cs ≤ length cs * most_time
 
 pub cycle_sums : (g : Digraph) → IsSoundGraph g → (cs : List ℕ) → IsCycle g cs → AreCycleSums g cs
 cycle_sums g sound [] is = absurd is

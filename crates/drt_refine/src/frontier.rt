@@ -1,6 +1,8 @@
 //! The frontier and its steps.
 
 ghost use Rattle.std.specs.Prelude.{◌≡◌, ◌+◌, ◌≤◌, ◌++◌, length, IfOk, vec_capacity};
+ghost use Rattle.drt_effort.specs.Efforts.{most_budget};
+ghost use Rattle.drt_model.specs.Limits.{most_time};
 ghost use Rattle.drt_steps.specs.Time.{AreChosen};
 ghost use Rattle.drt_refine.specs.Machine.{opening_state};
 ghost use Rattle.drt_refine.specs.View.{IsFrontier, setting_of, state_of, CanApply, IsFrontierStep};
@@ -63,9 +65,9 @@ impl Frontier {
     ) -> Result<Frontier, Memory>
         requires few { length roots.now ≤ 31 }
         requires roots { AreChosen deadline forest.now.pool roots.now }
-        requires wcet { (1 ≤ wcet) × (wcet ≤ 1000000) }
-        requires deadline { (1 ≤ deadline) × (deadline ≤ 1000000) }
-        requires budget { (1 ≤ budget) × (budget ≤ 1000000) }
+        requires wcet { (1 ≤ wcet) × (wcet ≤ most_time) }
+        requires deadline { (1 ≤ deadline) × (deadline ≤ most_time) }
+        requires budget { (1 ≤ budget) × (budget ≤ most_budget) }
         ensures setting { IfOk result (λ frontier. setting_of forest.now frontier ≡ record { forest = forest.now; roots = roots.now; wcet = wcet; deadline = deadline; budget = budget }) }
         ensures state { IfOk result (λ frontier. state_of frontier ≡ opening_state (setting_of forest.now frontier)) }
         ensures frontier { IfOk result (λ frontier. IsFrontier forest.now frontier) }

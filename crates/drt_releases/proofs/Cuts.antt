@@ -2,6 +2,7 @@
 use Rattle.std.proofs.Common.{inl, inr, ◌≡◌, ℕ, ◌+◌, ◌<◌, ◌≤◌, ltb, List, [], ◌∷◌, ◌++◌, length, drop, get_or, refl, sym, subst, arith, ◌∙◌}
 use Rattle.std.proofs.lemmas.Bool.{cases_Bool, le-ltb, lt-ltb, ltb-true}
 use Rattle.std.proofs.lemmas.List.{append-nil, append_assoc}
+use Rattle.drt_model.specs.Limits.{most_time}
 use Rattle.drt_model.specs.Digraph.{Digraph, IsSoundGraph, vertex_count}
 use Rattle.drt_model.specs.Walk.{IsPath, gap, last_of, span}
 use Rattle.drt_graph.proofs.Edges.{target_of}
@@ -57,13 +58,13 @@ module _ (g : Digraph) (sound : IsSoundGraph g) where
   ]
 
   -- A cut walk's last deadline is at most 1,000,000 ticks behind the cut.
-  pub cut_due : (d : ℕ) (w : List ℕ) → IsWalk g w → due_of g (cut g d w) ≤ d + 1000000
+  pub cut_due : (d : ℕ) (w : List ℕ) → IsWalk g w → due_of g (cut g d w) ≤ d + most_time
   cut_due d [] is = omega arith
   cut_due d (u ∷ vs) is =
       let walk : IsWalk g (cut g d (u ∷ vs)) = cut_walk g d (u ∷ vs) is in
       let l : last_of u (cut_from g d 0 u vs) < vertex_count g = last_in u (cut_from g d 0 u vs) is.0 walk.1 in
       omega (arith, (sound.deadline (last_of u (cut_from g d 0 u vs)) l).1, cut_span d 0 u vs (omega arith))
 
-  pub one_due : (v : ℕ) → v < vertex_count g → due_of g (v ∷ []) ≤ 1000000
+  pub one_due : (v : ℕ) → v < vertex_count g → due_of g (v ∷ []) ≤ most_time
   unfolding span
   one_due v l = omega (arith, (sound.deadline v l).1)

@@ -1,5 +1,6 @@
 -- Request labels as values.
 use Rattle.std.specs.Prelude.{ℕ, ◌+◌, ◌*◌, ◌≤◌, Bool, ◌==◌, nat_le, nat_lt, ◌&&◌, false, List, length, replicate}
+use Rattle.drt_model.specs.Limits.{most_time}
 use Rattle.drt_label.specs.Algebra.{Algebra}
 use Rattle.drt_steps.specs.Values.{raise, covers, value_at}
 use Rattle.drt_steps.specs.Samples.{samples_of}
@@ -17,7 +18,7 @@ request_dominates x y = (x.vertex == y.vertex) && (nat_le x.offset y.offset && c
 -- How request labels are made, read and compared.
 abbrev pub request_algebra : Algebra Request
 request_algebra = record {
-  takes_bound = λ bound. nat_le 1 bound && nat_le bound 1000000;
+  takes_bound = λ bound. nat_le 1 bound && nat_le bound most_time;
   opening = λ number wcet bound. record { vertex = number; offset = 0; values = replicate bound wcet };
   extend = λ x sep target wcet. record { vertex = target; offset = x.offset + sep; values = raise (x.offset + sep) wcet x.values };
   vertex = λ x. x.vertex;
@@ -33,6 +34,6 @@ request_algebra = record {
 -- What each label keeps: with a release at most once a tick, the values stay small.
 pub record AreValuesWithinLimits (offset : ℕ) (values : List ℕ) : Type 0 where
   pub early : offset ≤ 2000000
-  pub few : length values ≤ 1000000
-  pub work : (t : ℕ) → value_at values t ≤ 1000000 * (offset + 1)
+  pub few : length values ≤ most_time
+  pub work : (t : ℕ) → value_at values t ≤ most_time * (offset + 1)
   pub small : (t : ℕ) → value_at values t ≤ 1000000000000

@@ -2,6 +2,7 @@
 use Rattle.std.proofs.Common.{inl, inr, ◌≡◌, ℕ, ◌+◌, ◌<◌, ◌≤◌, eqb, ltb, List, [], ◌∷◌, length, refl, sym, ap, ◌∙◌, subst, arith}
 use Rattle.std.proofs.lemmas.Bool.{cases_Bool, eq-eqb, eqb-true, le-ltb, lt-ltb, ne_eqb}
 use Rattle.std.proofs.lemmas.List.{length-map}
+use Rattle.drt_model.specs.Limits.{most_time}
 use Rattle.drt_model.specs.declared.tasks.Task.{Task}
 use Rattle.drt_model.specs.Digraph.{Digraph, IsSoundGraph, digraph_of, vertex_count}
 use Rattle.drt_graph.specs.Graphs.{AreGraphs, graph_of, no_graph}
@@ -32,7 +33,7 @@ module _ (tasks : List Task) (walks : List (List ℕ)) (k v n : ℕ) where
   unfolding with_job
   walk_nowhere i le ne = rw (le-ltb (task_at tasks i).priority (task_at tasks k).priority le, ne_eqb i k ne) refl
 
-  module _ (graphs : AreGraphs (graphs_of tasks)) (are : AreWalks tasks (placed_walk tasks walks)) (here : k < length tasks) (vertex : v < vertex_count (graph_at tasks k)) (small : n ≤ 1000000) where
+  module _ (graphs : AreGraphs (graphs_of tasks)) (are : AreWalks tasks (placed_walk tasks walks)) (here : k < length tasks) (vertex : v < vertex_count (graph_at tasks k)) (small : n ≤ most_time) where
     sound_at : (i : ℕ) → i < length tasks → IsSoundGraph (graph_at tasks i)
     sound_at i l = subst IsSoundGraph (graph_same tasks i l) (graphs.sound i no_graph (omega (arith, length-map tasks digraph_of)))
 
@@ -40,7 +41,7 @@ module _ (tasks : List Task) (walks : List (List ℕ)) (k v n : ℕ) where
     higher_due i l =
         let g : Digraph = graph_at tasks i in
         let w : List ℕ = placed_walk tasks walks i in
-        let due : due_of g (cut g n w) ≤ n + 1000000 = cut_due g (sound_at i l) n w (are i l) in
+        let due : due_of g (cut g n w) ≤ n + most_time = cut_due g (sound_at i l) n w (are i l) in
         (cut_walk g n w (are i l), omega (arith, due, small))
 
     job_due : (i : ℕ) → i < length tasks → IsDueWalk (graph_at tasks i) 2000000 (job_walk tasks walks k v n i)

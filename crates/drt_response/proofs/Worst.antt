@@ -8,7 +8,7 @@ use Rattle.drt_model.specs.declared.jobs.Release.{Release}
 use Rattle.drt_model.specs.Constrained.{AreConstrained}
 use Rattle.drt_model.specs.Contents.{Contents}
 use Rattle.drt_model.specs.Digraph.{IsSoundGraph, vertex_count}
-use Rattle.drt_model.specs.Limits.{IsTaskSet}
+use Rattle.drt_model.specs.Limits.{IsTaskSet, most_time}
 use Rattle.drt_model.specs.Schedulable.{Schedulable}
 use Rattle.drt_model.specs.Walk.{deadline, wcet}
 use Rattle.drt_graph.proofs.Soundness.{all_sound}
@@ -77,7 +77,7 @@ module _ (version : ℕ) (tasks : List Task) (limits : IsTaskSet version tasks) 
       ((decides version tasks limits constrained k v task vertex meets ticks).1 fit, record { legal = legal; job = job; here = here; finish = finish })
 
   -- The number is within the limits of a deadline.
-  pub ticks_most : ticks ≤ 1000000
+  pub ticks_most : ticks ≤ most_time
   ticks_most =
       let sound : IsSoundGraph (graph_at tasks k) = all_sound version tasks limits k no_task task in
       omega (arith, worst.within, worst.near, (sound.deadline v vertex).1)

@@ -1,5 +1,6 @@
 //! The releases that reach a response time.
 ghost use Rattle.std.specs.Prelude.{◌≡◌, ◌≤◌, ◌<◌, ℕ, IfOk, length};
+ghost use Rattle.drt_model.specs.Limits.{most_time};
 ghost use Rattle.drt_model.specs.Digraph.{vertex_count};
 ghost use Rattle.drt_busy.specs.Choice.{AreWalks, graph_at};
 ghost use Rattle.drt_busy.specs.Response.{reaching};
@@ -33,7 +34,7 @@ pub(crate) fn reaching_releases(
     requires walks { AreWalks set.now.tasks (placed_walk set.now.tasks walks.now) }
     requires task { job.at.task < length set.now.tasks }
     requires vertex { job.at.vertex < vertex_count (graph_at set.now.tasks job.at.task) }
-    requires finish { job.finish ≤ 1000000 }
+    requires finish { job.finish ≤ most_time }
     ensures { IfOk result (λ releases. releases ≡ reaching set.now.tasks (placed_walk set.now.tasks walks.now) job.at.task job.at.vertex job.finish) }
 {
     let graphs = set.graphs();

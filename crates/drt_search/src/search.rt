@@ -1,6 +1,7 @@
 //! A whole search.
 
 ghost use Rattle.std.specs.Prelude.{◌≡◌, ◌≤◌, IfOk, IsTrue, OnOk, false, length};
+ghost use Rattle.drt_effort.specs.Efforts.{most_budget};
 ghost use Rattle.drt_pool.specs.Turns.{EachPlace};
 ghost use Rattle.drt_shared.specs.Passes.{IsPassOf, is_any_halted};
 ghost use Rattle.drt_table.specs.Drive.{StopsAt};
@@ -34,7 +35,7 @@ pub fn search_together<L: SharedLabel, G: Gate, R: Threads + Wait + Sync>(
     gate: &G,
 ) -> Result<(Table<L>, TableReply), Memory>
     requires bound { IsTrue (L.algebra.takes_bound bound) }
-    requires budget { (1 ≤ budget) × (budget ≤ 1000000) }
+    requires budget { (1 ≤ budget) × (budget ≤ most_budget) }
     requires workers { (1 ≤ workers) × (workers ≤ 16) }
     ensures setting { IfOk result (λ end. setting_of end.0 ≡ record { graph = graph.now; bound = bound; budget = budget }) }
     ensures stops { IfOk result (λ end. StopsAt L.algebra end.0 end.1) }

@@ -3,6 +3,7 @@ use Rattle.std.proofs.Common.{◌≡◌, ℕ, zero, suc, ◌+◌, ◌<◌, ◌�
 use Rattle.std.specs.Prelude.{slice_get, IsTrue, option_map, replicate}
 use Rattle.std.proofs.lemmas.List.{length-map}
 use Rattle.std.proofs.lemmas.Option.{none-some, same_Some, slice_get-map, slice_get_within}
+use Rattle.drt_effort.specs.Efforts.{most_budget}
 use Rattle.drt_label.specs.Algebra.{Algebra, Laws}
 use Rattle.drt_table.specs.Held.{hand_out}
 use Rattle.drt_table.specs.Machine.{State, Outcome}
@@ -66,8 +67,8 @@ spare_added Closed spares k added e = absurd added
 spare_added Spent spares k added e = absurd added
 
 -- a log is never longer than the greatest budget
-pub few_logged : {L : Type 0} (a : Algebra L) (laws : Laws a) (v : View L) → IsTable a v → length v.log ≤ 1000000
-few_logged a laws v is = let l : length v.log ≤ v.budget = log_within a laws v is in let b : v.budget ≤ 1000000 = is.budget in omega arith
+pub few_logged : {L : Type 0} (a : Algebra L) (laws : Laws a) (v : View L) → IsTable a v → length v.log ≤ most_budget
+few_logged a laws v is = let l : length v.log ≤ v.budget = log_within a laws v is in let b : v.budget ≤ most_budget = is.budget in omega arith
 
 module _ {L : Type 0} (a : Algebra L) (old new : View L) (w : ℕ) (step : TableStep) (reply : TableReply) (has : HasSpares old) (is : IsTableStep a old new w step reply) where
   abbrev gone : Outcome L

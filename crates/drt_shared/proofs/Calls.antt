@@ -3,6 +3,8 @@ use Rattle.std.proofs.Common.{◌≡◌, ℕ, ◌<◌, ◌≤◌, true, false, O
 use Rattle.std.specs.Prelude.{slice_get, is_none, ◌&&◌, ◌==◌}
 use Rattle.std.proofs.lemmas.Bool.Decides.{nat_tests}
 use Rattle.std.proofs.lemmas.Option.{none-some, same_Some}
+use Rattle.drt_effort.specs.Efforts.{most_budget}
+use Rattle.drt_model.specs.Limits.{most_time}
 use Rattle.drt_label.specs.Algebra.{Algebra, Laws}
 use Rattle.drt_model.specs.Digraph.{out_degree}
 use Rattle.drt_table.specs.Machine.{Setting, State, CanStep, Holds, extended}
@@ -225,11 +227,11 @@ module _ {L : Type 0} (a : Algebra L) where
   nothing_held t h e = absurd (none-some h e)
 
   -- a call that found something else
-  pub strange_call : (v : View L) (o : Option (Holding L)) (m : Move L) (f : Found) → length v.log ≤ 1000000 → is_expected o f ≡ false → IsCall a v v o m (Strange f) None
+  pub strange_call : (v : View L) (o : Option (Holding L)) (m : Move L) (f : Found) → length v.log ≤ most_budget → is_expected o f ≡ false → IsCall a v v o m (Strange f) None
   strange_call v o m f few e = record { setting = refl; log = omega arith; few = few; kind = tt; differs = e; comes = tt; held = nothing_held (setting_of v); next = tt }
 
   -- a call after the search was halted
-  pub halted_call : (v : View L) (o : Option (Holding L)) (m : Move L) → length v.log ≤ 1000000 → IsCall a v v o m Halted None
+  pub halted_call : (v : View L) (o : Option (Holding L)) (m : Move L) → length v.log ≤ most_budget → IsCall a v v o m Halted None
   halted_call v o m few = record { setting = refl; log = omega arith; few = few; kind = tt; differs = tt; comes = tt; held = nothing_held (setting_of v); next = tt }
 
   -- a call that made a step
@@ -247,7 +249,7 @@ module _ {L : Type 0} (a : Algebra L) where
   taken_call old mid new o r h is node zero set log label = record {
     setting = set ∙ is.setting;
     log = ap length log ∙ is.log;
-    few = subst (λ n. n ≤ 1000000) (ap length (sym log)) is.few;
+    few = subst (λ n. n ≤ most_time) (ap length (sym log)) is.few;
     kind = is.kind;
     differs = tt;
     comes = take_something r h node zero;

@@ -1,5 +1,6 @@
 -- A table behind the lock, and one call on it.
 use Rattle.std.specs.Prelude.{◌≡◌, ℕ, ◌+◌, ◌<◌, ◌≤◌, IsTrue, Option, None, Some, slice_get, length}
+use Rattle.drt_effort.specs.Efforts.{most_budget}
 use Rattle.drt_label.specs.Algebra.{Algebra}
 use Rattle.drt_model.specs.Digraph.{out_degree}
 use Rattle.drt_table.specs.Machine.{Setting}
@@ -79,7 +80,7 @@ CanCount a t Spent o = Unit {0}
 pub record IsLogged {L : Type 0} (old new : View L) (step : TableStep) (reply : TableReply) : Type 0 where
   pub setting : setting_of new ≡ setting_of old
   pub log : length new.log ≡ length old.log + logged_by reply
-  pub few : length new.log ≤ 1000000
+  pub few : length new.log ≤ most_budget
   pub kind : IsReplyOf step reply
   pub hands : HandsOut new reply
 
@@ -88,7 +89,7 @@ pub record IsLogged {L : Type 0} (old new : View L) (step : TableStep) (reply : 
 pub record IsCall {L : Type 0} (a : Algebra L) (old new : View L) (o : Option (Holding L)) (m : Move L) (reply : SharedReply) (taken : Option (Holding L)) : Type 0 where
   pub setting : setting_of new ≡ setting_of old
   pub log : length new.log ≡ length old.log + logged reply
-  pub few : length new.log ≤ 1000000
+  pub few : length new.log ≤ most_budget
   pub kind : ForReply (IsReplyTo m) reply
   pub differs : DiffersIfStrange o reply
   pub comes : ForReply (λ r. ComesTaken r taken) reply

@@ -1,6 +1,7 @@
 //! The table behind the lock.
 
 ghost use Rattle.std.specs.Prelude.{◌≡◌, ◌↔◌, ℕ, ◌≤◌, IfOk, IsTrue, Option, Some, None, true, []};
+ghost use Rattle.drt_effort.specs.Efforts.{most_budget};
 ghost use Rattle.drt_table.specs.Node.{is_held_by};
 ghost use Rattle.drt_table.specs.Taking.{taken_node};
 ghost use Rattle.drt_table.specs.View.{IsTable, setting_of, state_of, CanApply, ComesWith};
@@ -57,7 +58,7 @@ impl<L: Label> Board<L> {
         budget: u64,
     ) -> Result<Board<L>, Memory>
         requires bound { IsTrue (L.algebra.takes_bound bound) }
-        requires budget { (1 ≤ budget) × (budget ≤ 1000000) }
+        requires budget { (1 ≤ budget) × (budget ≤ most_budget) }
         ensures setting { IfOk result (λ board. setting_of board ≡ record { graph = graph.now; bound = bound; budget = budget }) }
         ensures log { IfOk result (λ board. board.log ≡ []) }
     {

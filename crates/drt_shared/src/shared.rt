@@ -1,6 +1,7 @@
 //! The shared table.
 
 ghost use Rattle.std.specs.Prelude.{◌≡◌, ℕ, ◌+◌, ◌^◌, ◌<◌, ◌≤◌, IfOk, IsTrue, MatchBool, true, None, Some, length, option_map};
+ghost use Rattle.drt_effort.specs.Efforts.{most_budget};
 ghost use Rattle.drt_lock.specs.Seats.{IsAtWork, HoldsMachine};
 ghost use Rattle.drt_pool.specs.Turns.{EachPlace};
 ghost use Rattle.drt_table.specs.View.{View, IsTable, setting_of};
@@ -71,7 +72,7 @@ impl<L: Label> SharedTable<L> {
         passes: u32,
     ) -> Result<(SharedTable<L>, Row<Pass<L>>), Memory>
         requires bound { IsTrue (L.algebra.takes_bound bound) }
-        requires budget { (1 ≤ budget) × (budget ≤ 1000000) }
+        requires budget { (1 ≤ budget) × (budget ≤ most_budget) }
         requires passes { (1 ≤ passes) × (passes ≤ 16) }
         ensures setting { IfOk result (λ r. r.0.setting ≡ record { graph = graph.now; bound = bound; budget = budget }) }
         ensures count { IfOk result (λ r. (r.0.passes ≡ passes) × (length r.1 ≡ passes)) }

@@ -1,5 +1,7 @@
 -- Which passes and which seat are those of a lock.
 use Rattle.std.specs.Prelude.{◌≡◌, ℕ, ◌+◌, ◌≤◌, None, Some, List, length}
+use Rattle.drt_effort.specs.Efforts.{most_budget}
+use Rattle.drt_model.specs.Limits.{most_time}
 use Rattle.atomic_table.specs.Seated.{TableId}
 use Rattle.atomic_table.specs.declared.shared.Seat.{Seat}
 use Rattle.drt_lock.specs.declared.view.SeatView.{SeatView}
@@ -31,5 +33,5 @@ pub record IsStarted (t : FrontierSetting) (wcet deadline : ℕ) : Type 0 where
   pub few : length t.roots ≤ 31
   pub wcet_is : t.wcet ≡ wcet
   pub deadline_is : t.deadline ≡ deadline
-  pub wcet_least : wcet ≤ 1000000
-  pub budget : t.budget ≤ 1000000
+  pub wcet_least : wcet ≤ most_time
+  pub budget : t.budget ≤ most_budget

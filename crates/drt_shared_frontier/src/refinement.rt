@@ -1,6 +1,8 @@
 //! Working a frontier to its end.
 
 ghost use Rattle.std.specs.Prelude.{◌≡◌, ℕ, ◌≤◌, IfOk, length};
+ghost use Rattle.drt_effort.specs.Efforts.{most_budget};
+ghost use Rattle.drt_model.specs.Limits.{most_time};
 ghost use Rattle.drt_pool.specs.Turns.{EachPlace, IsEndOfTurns};
 ghost use Rattle.drt_refine.specs.Drive.{StopsAt};
 ghost use Rattle.drt_refine.specs.Eager.{IsEager};
@@ -83,9 +85,9 @@ pub fn refine<G: Gate, R: Threads + Wait + Sync>(
 ) -> Result<(Frontier, FrontierReply), Memory>
     requires few { length roots.now ≤ 31 }
     requires roots { AreChosen deadline forest.now.pool roots.now }
-    requires wcet { (1 ≤ wcet) × (wcet ≤ 1000000) }
-    requires deadline { (1 ≤ deadline) × (deadline ≤ 1000000) }
-    requires budget { (1 ≤ budget) × (budget ≤ 1000000) }
+    requires wcet { (1 ≤ wcet) × (wcet ≤ most_time) }
+    requires deadline { (1 ≤ deadline) × (deadline ≤ most_time) }
+    requires budget { (1 ≤ budget) × (budget ≤ most_budget) }
     requires workers { (1 ≤ workers) × (workers ≤ 16) }
     ensures setting { IfOk result (λ r. setting_of forest.now r.0 ≡ record { forest = forest.now; roots = roots.now; wcet = wcet; deadline = deadline; budget = budget }) }
     ensures frontier { IfOk result (λ r. IsFrontier forest.now r.0) }
@@ -115,9 +117,9 @@ fn drive_alone(
 ) -> Result<(Frontier, FrontierReply), Memory>
     requires few { length roots.now ≤ 31 }
     requires roots { AreChosen deadline forest.now.pool roots.now }
-    requires wcet { (1 ≤ wcet) × (wcet ≤ 1000000) }
-    requires deadline { (1 ≤ deadline) × (deadline ≤ 1000000) }
-    requires budget { (1 ≤ budget) × (budget ≤ 1000000) }
+    requires wcet { (1 ≤ wcet) × (wcet ≤ most_time) }
+    requires deadline { (1 ≤ deadline) × (deadline ≤ most_time) }
+    requires budget { (1 ≤ budget) × (budget ≤ most_budget) }
     ensures setting { IfOk result (λ r. setting_of forest.now r.0 ≡ record { forest = forest.now; roots = roots.now; wcet = wcet; deadline = deadline; budget = budget }) }
     ensures frontier { IfOk result (λ r. IsFrontier forest.now r.0) }
     ensures eager { IfOk result (λ r. IsEager (setting_of forest.now r.0) r.0.log) }

@@ -1,6 +1,8 @@
 //! The shared frontier.
 
 ghost use Rattle.std.specs.Prelude.{◌≡◌, ℕ, ◌+◌, ◌^◌, ◌<◌, ◌≤◌, IfOk, IsTrue, MatchBool, None, Some, length};
+ghost use Rattle.drt_effort.specs.Efforts.{most_budget};
+ghost use Rattle.drt_model.specs.Limits.{most_time};
 ghost use Rattle.drt_lock.specs.Seats.{IsAtWork, HoldsMachine};
 ghost use Rattle.drt_pool.specs.Turns.{EachPlace};
 ghost use Rattle.drt_refine.specs.Eager.{IsEager};
@@ -66,9 +68,9 @@ impl SharedFrontier {
     ) -> Result<(SharedFrontier, Row<FrontierPass>), Memory>
         requires few { length roots.now ≤ 31 }
         requires roots { AreChosen deadline forest.now.pool roots.now }
-        requires wcet { (1 ≤ wcet) × (wcet ≤ 1000000) }
-        requires deadline { (1 ≤ deadline) × (deadline ≤ 1000000) }
-        requires budget { (1 ≤ budget) × (budget ≤ 1000000) }
+        requires wcet { (1 ≤ wcet) × (wcet ≤ most_time) }
+        requires deadline { (1 ≤ deadline) × (deadline ≤ most_time) }
+        requires budget { (1 ≤ budget) × (budget ≤ most_budget) }
         requires passes { (1 ≤ passes) × (passes ≤ 16) }
         ensures setting { IfOk result (λ r. r.0.setting ≡ record { forest = forest.now; roots = roots.now; wcet = wcet; deadline = deadline; budget = budget }) }
         ensures count { IfOk result (λ r. (r.0.passes ≡ passes) × (length r.1 ≡ passes)) }

@@ -3,6 +3,7 @@ use Rattle.std.proofs.Common.{◌≡◌, ℕ, ◌+◌, ◌<◌, ◌≤◌, Optio
 use Rattle.std.specs.Prelude.{slice_get, slice_set}
 use Rattle.std.proofs.lemmas.List.Elements.{All-pop, All-push}
 use Rattle.std.proofs.lemmas.Option.{get_or_from_slice_get, none-some, same_Some, slice_get_within}
+use Rattle.drt_model.specs.Limits.{most_time}
 use Rattle.drt_table.proofs.Linking.{at_pushed, get_last}
 use Rattle.drt_worklist.proofs.Lists.{after_join, get_within, length_join}
 use Rattle.drt_worklist.proofs.Writes.{length_set, set_at}
@@ -93,8 +94,8 @@ module _ (f : Plain) (roots : List ℕ) (g : Digraph) where
     deadline_are : a.frontier.deadline ≡ a.deadline
     deadline_are = ap (λ (t : FrontierSetting). t.deadline) h.spent.setting
 
-    pub deadline_small : a.frontier.deadline ≤ 1000000
-    deadline_small = subst (λ (d : ℕ). d ≤ 1000000) (sym deadline_are) h.deadline_small
+    pub deadline_small : a.frontier.deadline ≤ most_time
+    deadline_small = subst (λ (d : ℕ). d ≤ most_time) (sym deadline_are) h.deadline_small
 
     pub can_be_ended : FactsHold → CanBeEnded f a
     can_be_ended law = record {

@@ -8,6 +8,7 @@ use Rattle.std.proofs.lemmas.Bool.Decides.{nat_tests}
 use Rattle.std.proofs.lemmas.List.{append-nil, reverse-reverse}
 use Rattle.std.proofs.lemmas.List.FromFn.{length-map-range_with_len, get_or-map-range_with_len}
 use Rattle.std.proofs.lemmas.List.Sums.{fails_before_first, passes_at_first}
+use Rattle.drt_model.specs.Limits.{most_time}
 use Rattle.drt_graph.specs.Degrees.{most_out}
 use Rattle.drt_model.specs.Digraph.{Digraph, IsSoundGraph}
 use Rattle.drt_model.specs.RequestFunction.{request}
@@ -141,11 +142,11 @@ scaled n kept many g l m =
     omega arith
 
 -- A search that spent its budget had less than a graph with so many walks needs.
-pub spent_search : SearchesAreShort → SearchesKeepFew → (g : Digraph) (bound budget n : ℕ) (log : List Entry) → IsSoundGraph g → 1 ≤ bound → bound ≤ 1000000
+pub spent_search : SearchesAreShort → SearchesKeepFew → (g : Digraph) (bound budget n : ℕ) (log : List Entry) → IsSoundGraph g → 1 ≤ bound → bound ≤ most_time
     → IsSpentWalkSearch g bound budget log → HasAtMost bound g n → budget < n * (most_out g.out + 2)
 spent_search short few g bound budget n log sound from to is most =
     let t = search_of g bound budget in
-    let takes : (nat_le 1 bound && nat_le bound 1000000) ≡ true = grind (arith, nat_tests) in
+    let takes : (nat_le 1 bound && nat_le bound most_time) ≡ true = grind (arith, nat_tests) in
     let s = short t log (most_out g.out) sound takes is.run (λ v l. most_row g.out v) in
     let k = few t log (slot g bound most.0) (length most.0) sound takes is.run (slots_are t sound most.0 most.2) in
     let u = s.unfinished is.unfinished in

@@ -4,6 +4,7 @@ use Rattle.std.specs.Prelude.{slice_get, slice_set}
 use Rattle.std.proofs.lemmas.List.{append-nil}
 use Rattle.std.proofs.lemmas.List.Elements.{All-append, All-cons, All-push, All-nil}
 use Rattle.std.proofs.lemmas.Option.{slice_get_within}
+use Rattle.drt_model.specs.Limits.{most_time}
 use Rattle.drt_worklist.proofs.Lists.{length_join}
 use Rattle.drt_tree.specs.Tree.{Plain}
 use Rattle.drt_claims.specs.Ranges.{IsInRangeItem, IsNumber}
@@ -89,7 +90,7 @@ module _ (t : FrontierSetting) (cs : List Combination) (settled : AreSettled t c
   with_item r item more h =
       subst (λ (l : List Item). Are l (t.roots ∷ [])) (sym (append_assoc items (item ∷ []) more)) (r.goes (item ∷ more) (subst (λ (s : List (List ℕ)). Are (item ∷ more) s) on_top h))
 
-  read_pass : (time : ℕ) → t.deadline ≤ 1000000 → c.state ≡ PassedAt time → Read items (rest ++ id ∷ []) → Read (items ++ Pass time ∷ []) rest
+  read_pass : (time : ℕ) → t.deadline ≤ most_time → c.state ≡ PassedAt time → Read items (rest ++ id ∷ []) → Read (items ++ Pass time ∷ []) rest
   read_pass time small is r =
       let least : IsLeastTime t.wcet t.deadline t.forest.pool c.nodes time = subst (λ (s : CombinationState). IsSettled t cs id c.nodes s) is (settled.each id c at) in
       record {
@@ -121,7 +122,7 @@ module _ (t : FrontierSetting) (cs : List Combination) (settled : AreSettled t c
     in_range = All-append IsInRangeItem items added r.in_range ends.in_range;
   }
 
-  read_by : (s : CombinationState) (added : List Item) (new : List ℕ) → t.deadline ≤ 1000000 → c.state ≡ s → AreAdded t.forest t.wcet t.deadline s c.nodes added rest new
+  read_by : (s : CombinationState) (added : List Item) (new : List ℕ) → t.deadline ≤ most_time → c.state ≡ s → AreAdded t.forest t.wcet t.deadline s c.nodes added rest new
       → Read items (rest ++ id ∷ []) → Read (items ++ added) new
   read_by Pending added new small is h r = subst (λ (s : List ℕ). Read (items ++ added) s) (sym h.1) (read_part added h.0 r)
   read_by (Taken w) added new small is h r = subst (λ (s : List ℕ). Read (items ++ added) s) (sym h.1) (read_part added h.0 r)
@@ -132,7 +133,7 @@ module _ (t : FrontierSetting) (cs : List Combination) (settled : AreSettled t c
   read_by Failed added new small is h r = elim h [ ]
 
   -- the items of the topmost combination were added
-  pub read_more : (added : List Item) (new : List ℕ) → t.deadline ≤ 1000000 → AreAdded t.forest t.wcet t.deadline c.state c.nodes added rest new → Read items (rest ++ id ∷ [])
+  pub read_more : (added : List Item) (new : List ℕ) → t.deadline ≤ most_time → AreAdded t.forest t.wcet t.deadline c.state c.nodes added rest new → Read items (rest ++ id ∷ [])
       → Read (items ++ added) new
   read_more added new small h r = read_by c.state added new small refl h r
 
@@ -154,7 +155,7 @@ module _ (t : FrontierSetting) (cs : List Combination) (settled : AreSettled t c
   pub within_more : (added : List Item) (new : List ℕ) → AreAdded t.forest t.wcet t.deadline c.state c.nodes added rest new → All (λ n. n < length cs) rest → All (λ n. n < length cs) new
   within_more added new h all = within_by c.state added new refl h all
 
-  reading_pass : (time : ℕ) → t.deadline ≤ 1000000 → c.state ≡ PassedAt time → Reads items (rest ++ id ∷ []) → Reads (items ++ Pass time ∷ []) rest
+  reading_pass : (time : ℕ) → t.deadline ≤ most_time → c.state ≡ PassedAt time → Reads items (rest ++ id ∷ []) → Reads (items ++ Pass time ∷ []) rest
   reading_pass time small is r = record {
     read = read_pass time small is r.read;
     visit = subst (λ n. IsVisit cs rest n) (longer (Pass time)) (visit_pass cs rest id (length items) r.visit);
@@ -166,7 +167,7 @@ module _ (t : FrontierSetting) (cs : List Combination) (settled : AreSettled t c
     visit = subst (λ n. IsVisit cs (rest ++ right ∷ left ∷ []) n) (longer (Split place)) (visit_split cs rest id (length items) r.visit t settled c at place left right is);
   }
 
-  reading_by : (s : CombinationState) (item : Item) (new : List ℕ) → t.deadline ≤ 1000000 → c.state ≡ s → IsItemOf s item rest new → Reads items (rest ++ id ∷ [])
+  reading_by : (s : CombinationState) (item : Item) (new : List ℕ) → t.deadline ≤ most_time → c.state ≡ s → IsItemOf s item rest new → Reads items (rest ++ id ∷ [])
       → Reads (items ++ item ∷ []) new
   reading_by Pending item new small is h r = elim h [ ]
   reading_by (Taken w) item new small is h r = elim h [ ]
@@ -177,7 +178,7 @@ module _ (t : FrontierSetting) (cs : List Combination) (settled : AreSettled t c
   reading_by Failed item new small is h r = elim h [ ]
 
   -- one more item was read, that of the topmost combination
-  pub reading_more : (item : Item) (new : List ℕ) → t.deadline ≤ 1000000 → IsItemOf c.state item rest new → Reads items (rest ++ id ∷ []) → Reads (items ++ item ∷ []) new
+  pub reading_more : (item : Item) (new : List ℕ) → t.deadline ≤ most_time → IsItemOf c.state item rest new → Reads items (rest ++ id ∷ []) → Reads (items ++ item ∷ []) new
   reading_more item new small h r = reading_by c.state item new small refl h r
 
 -- the topmost number is that of a combination

@@ -15,6 +15,7 @@ use Rattle.drt_sp.specs.declared.joints.Joint.{Joint}
 use Rattle.drt_sp.proofs.Attempted.{deadline_small}
 use Rattle.std.proofs.lemmas.Grind.{common_steps}
 use Rattle.std.proofs.lemmas.Result.{IfOk-weaker}
+use Rattle.drt_model.specs.Limits.{most_time}
 
 -- what is written into a whole list is the list
 pub written_whole : {A : Type 0} (new old : List A) (n : ℕ) → length new ≡ n → length old ≡ n → take n (new ++ drop (length new) old) ≡ new
@@ -35,7 +36,7 @@ module _ (f : Plain) (roots : List ℕ) (g : Digraph) where
     joint = record {
       frontier = subst (λ (x : Attempt). IsFrontier f x.frontier) (sym same) is.spent.frontier;
       eager = subst (λ (x : Attempt). IsEager (setting_of f x.frontier) x.frontier.log) (sym same) is.spent.eager;
-      deadline = subst (λ (x : Attempt). x.frontier.deadline ≤ 1000000) (sym same) (deadline_small f roots g a is);
+      deadline = subst (λ (x : Attempt). x.frontier.deadline ≤ most_time) (sym same) (deadline_small f roots g a is);
       parts = subst (λ (x : Attempt). HasParts f x.frontier.wcet x.frontier.deadline x.frontier.combinations j.parts.items) (sym same)
           (subst (λ (t : Table). HasParts f a.frontier.wcet a.frontier.deadline a.frontier.combinations t.items) (sym own) parts);
       items =

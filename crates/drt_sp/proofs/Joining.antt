@@ -15,6 +15,7 @@ use Rattle.drt_refine.proofs.Below.{below_half, chosen_halves, length_set, passe
 use Rattle.drt_sp.specs.Items.{AreHalves, AreItems, IsProofOf, NonePasses, none, pass, split}
 use Rattle.drt_worklist.proofs.Writes.{length_set as length_write, set_at}
 use Rattle.std.proofs.lemmas.Option.{same_Some}
+use Rattle.drt_model.specs.Limits.{most_time}
 use Rattle.drt_refine.specs.Combination.{Combination}
 use Rattle.drt_sp.specs.declared.parts.Part.{Part}
 use Rattle.drt_sp.specs.Parts.{AreEndOf, CanEnd, HasParts, IsEndOf, IsNextItem, IsPart, upright}
@@ -65,7 +66,7 @@ upright_two (n ∷ stack) a b under = upright_two stack a b (n ∷ under)
 
 module _ (f : Plain) (w d : ℕ) (nodes : List ℕ) where
   -- a time that passes ends the combination
-  pub next_pass : (t : ℕ) (old : List (List ℕ)) → d ≤ 1000000 → IsLeastTime w d f.pool nodes t → IsNextItem f w d nodes old old (Pass t)
+  pub next_pass : (t : ℕ) (old : List (List ℕ)) → d ≤ most_time → IsLeastTime w d f.pool nodes t → IsNextItem f w d nodes old old (Pass t)
   next_pass t old small least = record {
     goes = λ more h. pass t more nodes (upright old []) least h;
     in_range = let le : t ≤ d = least.passes.to in omega (arith, small);

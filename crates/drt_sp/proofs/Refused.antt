@@ -3,6 +3,7 @@ use Rattle.std.proofs.Common.{inl, inr, ◌≡◌, ℕ, zero, suc, ◌+◌, ◌<
 use Rattle.std.proofs.Common.{sym, ap, ◌∙◌, subst, arith}
 use Rattle.std.proofs.lemmas.Bool.{cases_Bool, eqb-true}
 use Rattle.std.proofs.lemmas.List.{length-map}
+use Rattle.drt_model.specs.Limits.{most_time}
 use Rattle.drt_model.specs.Contents.{Contents}
 use Rattle.drt_model.specs.Constrained.{AreConstrained}
 use Rattle.drt_model.specs.Digraph.{Digraph, IsSoundGraph, digraph_of, vertex_count}
@@ -78,7 +79,7 @@ module _ (tasks : List Task) (f : Plain) (order tuple : List ℕ) (are : AreLeav
   pub sound_at : (k : ℕ) → k < length tasks → IsSoundGraph (graph_at tasks k)
   sound_at k l = subst IsSoundGraph (graph_same tasks k l) (graphs.sound k no_graph (omega (arith, length-map tasks digraph_of)))
 
-  chosen_due : (d : ℕ) → d ≤ 1000000 → (k : ℕ) → k < length tasks → IsDueWalk (graph_at tasks k) 2000000 (chosen tasks f d order tuple k)
+  chosen_due : (d : ℕ) → d ≤ most_time → (k : ℕ) → k < length tasks → IsDueWalk (graph_at tasks k) 2000000 (chosen tasks f d order tuple k)
   chosen_due d le k l = go (leaf_for order tuple k) refl
     where
       go : (leaf : Option ℕ) → leaf_for order tuple k ≡ leaf → IsDueWalk (graph_at tasks k) 2000000 (chosen tasks f d order tuple k)
@@ -88,10 +89,10 @@ module _ (tasks : List Task) (f : Plain) (order tuple : List ℕ) (are : AreLeav
           let at = leaf_place order tuple k leaf e in
           let is : IsLeafOf tasks f (get_or order at.0 0) (get_or tuple at.0 0) = are.each at.0 at.1 in
           let w : IsWalk g (walk f leaf) = subst (λ n. IsWalk g (walk f n)) at.3 (subst (λ n. IsWalk (graph_at tasks n) (walk f (get_or tuple at.0 0))) at.2 is.walk_is) in
-          let due : due_of g (cut g d (walk f leaf)) ≤ d + 1000000 = cut_due g (sound_at k l) d (walk f leaf) w in
+          let due : due_of g (cut g d (walk f leaf)) ≤ d + most_time = cut_due g (sound_at k l) d (walk f leaf) w in
           subst (IsDueWalk g 2000000) (sym (chosen_some tasks f d order tuple k leaf e)) (cut_walk g d (walk f leaf) w, omega (arith, due, le))
 
-  module _ (j v d : ℕ) (here : j < length tasks) (vertex : v < vertex_count (graph_at tasks j)) (small : d ≤ 1000000) where
+  module _ (j v d : ℕ) (here : j < length tasks) (vertex : v < vertex_count (graph_at tasks j)) (small : d ≤ most_time) where
     -- The walks of a vertex and a tuple of leaves are walks of the tasks, and due by the last deadline.
     pub job_due : (k : ℕ) → k < length tasks → IsDueWalk (graph_at tasks k) 2000000 (with_job tasks (chosen tasks f d order tuple) j v k)
     unfolding with_job
@@ -146,7 +147,7 @@ failed_walks set order f k v tuple forest graphs failed =
     let is : IsTupleFor set order f k v tuple = failed_tuple set order f k v tuple failed in
     let leaves : AreLeaves tasks f order tuple = are_leaves tasks (greatest_deadline tasks) f forest order is.roots tuple is.posed.order_is is.nodes is.posed.trees is.below in
     let vertex : v < vertex_count (graph_at tasks k) = is.posed.subject.vertex in
-    let small : d ≤ 1000000 = ((sound_at tasks f order tuple leaves graphs k is.task).deadline v vertex).1 in
+    let small : d ≤ most_time = ((sound_at tasks f order tuple leaves graphs k is.task).deadline v vertex).1 in
     record {
       walks = chosen tasks f d order tuple;
       are = λ i l. (chosen_due tasks f order tuple leaves graphs d small i l).0;

@@ -3,6 +3,7 @@ use Rattle.std.proofs.Common.{◌≡◌, ℕ, ◌+◌, ◌<◌, ◌≤◌, inl, 
 use Rattle.std.proofs.lemmas.Bool.{cases_Bool}
 use Rattle.std.proofs.lemmas.Bool.Decides.{nat_tests}
 use Rattle.std.proofs.lemmas.List.Elements.{All-cons, All-nil}
+use Rattle.drt_model.specs.Limits.{most_time}
 use Rattle.drt_model.specs.Digraph.{Digraph, IsSoundGraph, vertex_count}
 use Rattle.drt_model.specs.RequestFunction.{request}
 use Rattle.drt_model.specs.Walk.{gap, IsPath, span}
@@ -63,6 +64,6 @@ module _ (g : Digraph) (sound : IsSoundGraph g) where
   numbers u (v ∷ vs) l p = All-cons IsNumber u (v ∷ vs) (let f = sound.few in omega (arith, l, f)) (numbers v vs (target_of g sound u v (gap g u v) p.0).0 p.1)
 
   -- So it can be written.
-  pub walk_in_range : (bound : ℕ) → bound ≤ 1000000 → (w : List ℕ) → IsShortWalk bound g w → IsInRangeWalk w
+  pub walk_in_range : (bound : ℕ) → bound ≤ most_time → (w : List ℕ) → IsShortWalk bound g w → IsInRangeWalk w
   walk_in_range bound le [] short = absurd short
   walk_in_range bound le (u ∷ vs) short = (numbers u vs short.0 short.1, let s = length_span u vs short.1 in let b = short.2 in omega (arith, s, b, le))

@@ -11,6 +11,7 @@ use Rattle.std.proofs.lemmas.List.Elements.{All-map, All-weaker, All-get_or, All
 use Rattle.std.proofs.lemmas.List.FromFn.{length-map-range_with_len, get_or-map-range_with_len}
 use Rattle.std.proofs.lemmas.List.Sorted.{length_permutation}
 use Rattle.std.proofs.lemmas.Option.{none-some, same_Some, slice_get-map, slice_get_within, slice_get-get_or, get_or_from_slice_get}
+use Rattle.drt_model.specs.Limits.{most_time}
 use Rattle.drt_model.specs.Digraph.{Digraph, IsSoundGraph, vertex_count, out_degree, edge_of}
 use Rattle.drt_model.specs.RequestFunction.{request}
 use Rattle.drt_model.specs.Walk.{last_of, span}
@@ -469,7 +470,7 @@ module _ (f h : Plain) (ls : List Leaf) (top : ℕ) (old : IsForest f) (added : 
       halves = claim_halved tree added.built.halved walks_are (walks_long ∙ sym shape_counted);
     }
 
-    written_range : bound ≤ 1000000 → count ≤ 1000096 → IsInRangeTree written
+    written_range : bound ≤ most_time → count ≤ 1000096 → IsInRangeTree written
     written_range le few = record {
       walks = All-weaker (IsShortWalk bound g) IsInRangeWalk (walk_in_range g sound bound le) walks_are shorts;
       walks_counted = (let a = walks_long in omega (arith, a, few));
@@ -508,7 +509,7 @@ module _ (f h : Plain) (ls : List Leaf) (top : ℕ) (old : IsForest f) (added : 
         ap (λ ws. record { walks = ws; pairs = pairs_are }) x ∙ ap (λ ps. record { walks = claim.walks; pairs = ps }) y
 
     -- The tree is one of the task.
-    pub task_tree : 1 ≤ bound → bound ≤ 1000000 → length ls ≤ 1000096 → (t : TaskTree) → t.low ≡ low → t.top ≡ top → t.claim.walks ≡ walks_from h t.low (length ls)
+    pub task_tree : 1 ≤ bound → bound ≤ most_time → length ls ≤ 1000096 → (t : TaskTree) → t.low ≡ low → t.top ≡ top → t.claim.walks ≡ walks_from h t.low (length ls)
         → t.claim.pairs ≡ pairs_from h t.low (t.low + length ls) (length ls - 1) → IsTaskTree g bound f h t
     task_tree some le few t is_low is_top ws ps =
         let claim : written ≡ t.claim = claim_is t.claim (ws ∙ ap (λ n. walks_from h n (length ls)) is_low) (ps ∙ ap (λ n. pairs_from h n (n + length ls) (length ls - 1)) is_low) in

@@ -6,6 +6,7 @@ use Rattle.std.specs.declared.sync.Arc.{Arc}
 use Rattle.std.proofs.lemmas.List.{length-map}
 use Rattle.std.proofs.lemmas.Option.{slice_get-map}
 use Rattle.std.proofs.lemmas.List.Elements.{All-weaker}
+use Rattle.drt_effort.specs.Efforts.{most_budget}
 use Rattle.drt_model.specs.Digraph.{Digraph, IsSoundGraph}
 use Rattle.drt_graph.proofs.Paths.{span_none}
 use Rattle.drt_request.specs.Laws.{request_laws}
@@ -33,7 +34,7 @@ module _ (g : Digraph) (bound budget : ℕ) (v : View Request) (setting : settin
   search_leaves ls are = subst (λ x. AreWalkLeaves bound x ls) (ap (λ t. t.graph) setting) (subst (λ b. AreWalkLeaves b v.graph ls) (ap (λ t. t.bound) setting) are)
 
   -- A search has at most 1,000,096 nodes.
-  search_few : budget ≤ 1000000 → length v.nodes ≤ 1000096
+  search_few : budget ≤ most_budget → length v.nodes ≤ 1000096
   search_few le =
       let a = nodes_few request_algebra request_laws v is in
       let b = log_within request_algebra request_laws v is in
@@ -58,7 +59,7 @@ pub record AreLent {Z : Type 0} (g : Digraph) (bound : ℕ) (labels : List (Arc 
   pub few : length labels ≤ 1000096
 
 -- The leaves that a finished search of the graph gives are those of its tree.
-pub searched_leaves : (g : Digraph) (bound budget : ℕ) (v : View Request) → setting_of v ≡ search_of g bound budget → IsTable request_algebra v → budget ≤ 1000000
+pub searched_leaves : (g : Digraph) (bound budget : ℕ) (v : View Request) → setting_of v ≡ search_of g bound budget → IsTable request_algebra v → budget ≤ most_budget
     → (leaves : Leaves) → length leaves.labels.items ≡ length leaves.walks.items → length leaves.labels.items ≤ length v.nodes
     → AreWalkLeaves v.bound v.graph (leaves_of leaves.labels.items leaves.walks.items) → AreLeavesOf g bound leaves
 searched_leaves g bound budget v setting is to leaves same few are =

@@ -1,6 +1,7 @@
 -- The attempts at the vertices of a task that spent their steps, and the parts that workers make of the combinations that these left open.
 use Rattle.std.specs.Prelude.{◌≡◌, ℕ, ◌<◌, ◌≤◌, ◌⊎◌, Option, Some, List, Vec, length, slice_get}
 use Rattle.std.specs.declared.alloc.Global.{Global}
+use Rattle.drt_model.specs.Limits.{most_time}
 use Rattle.drt_model.specs.Digraph.{Digraph, vertex_count}
 use Rattle.drt_model.specs.Walk.{deadline, wcet}
 use Rattle.drt_claims.specs.declared.evidence.Item.{Item}
@@ -20,8 +21,8 @@ module _ (f : Plain) (roots : List ℕ) (g : Digraph) where
     pub vertex : a.vertex < vertex_count g
     pub wcet_is : a.wcet ≡ wcet g a.vertex
     pub deadline_is : a.deadline ≡ deadline g a.vertex
-    pub wcet_small : a.wcet ≤ 1000000
-    pub deadline_small : a.deadline ≤ 1000000
+    pub wcet_small : a.wcet ≤ most_time
+    pub deadline_small : a.deadline ≤ most_time
     pub few_roots : length roots ≤ 31
     pub spent : IsSpentFrontier f a.wcet a.deadline roots steps a.frontier
 
@@ -35,8 +36,8 @@ AreWith place x old new = (k : ℕ) (y : _) → slice_get new k ≡ Some (Some y
 
 -- Each combination of the attempt's frontier can be ended.
 pub record CanBeEnded (f : Plain) (a : Attempt) : Type 0 where
-  pub wcet_small : a.wcet ≤ 1000000
-  pub deadline_small : a.deadline ≤ 1000000
+  pub wcet_small : a.wcet ≤ most_time
+  pub deadline_small : a.deadline ≤ most_time
   pub can : (id : ℕ) (c : Combination) → slice_get a.frontier.combinations id ≡ Some c → CanEnd f a.wcet a.deadline c.nodes
 
 module _ (spent : List Attempt) where

@@ -1,5 +1,6 @@
 -- Attempts whose parts are put together.
 use Rattle.std.specs.Prelude.{◌≡◌, ℕ, ◌<◌, ◌≤◌, List, All, length, slice_index_or, IfOk, IfSome}
+use Rattle.drt_model.specs.Limits.{most_time}
 use Rattle.drt_model.specs.Digraph.{Digraph}
 use Rattle.drt_claims.specs.Ranges.{IsCounted}
 use Rattle.drt_refine.specs.Eager.{IsEager}
@@ -14,7 +15,7 @@ module _ (f : Plain) where
   pub record IsJoint (j : Joint) : Type 0 where
     pub frontier : IsFrontier f j.attempt.frontier
     pub eager : IsEager (setting_of f j.attempt.frontier) j.attempt.frontier.log
-    pub deadline : j.attempt.frontier.deadline ≤ 1000000
+    pub deadline : j.attempt.frontier.deadline ≤ most_time
     pub parts : HasParts f j.attempt.frontier.wcet j.attempt.frontier.deadline j.attempt.frontier.combinations j.parts.items
     pub items : IfOk j.items (λ some. IfSome some (λ items. AreEndOf f j.attempt.frontier.wcet j.attempt.frontier.deadline j.attempt.frontier.roots items × IsCounted items))
 

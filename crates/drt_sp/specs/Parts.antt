@@ -1,5 +1,6 @@
 -- A proof that is put together from parts, each of which ends one combination of a frontier.
 use Rattle.std.specs.Prelude.{◌≡◌, ℕ, ◌<◌, ◌≤◌, Option, Some, List, [], ◌∷◌, ◌++◌, All, length, slice_get}
+use Rattle.drt_model.specs.Limits.{most_time}
 use Rattle.drt_claims.specs.Ranges.{IsCounted, IsInRangeItem, IsNumber}
 use Rattle.drt_claims.specs.declared.evidence.Item.{Item}
 use Rattle.drt_claims.specs.declared.evidence.Item.TheVariants.{Pass, Split}
@@ -28,9 +29,9 @@ pub record IsPosedVertex (v : PosedVertex) : Type 0 where
   pub few : length v.roots.now ≤ 31
   pub chosen : AreChosen v.deadline v.forest.now.pool v.roots.now
   pub some_wcet : 1 ≤ v.wcet
-  pub few_wcet : v.wcet ≤ 1000000
+  pub few_wcet : v.wcet ≤ most_time
   pub some_deadline : 1 ≤ v.deadline
-  pub few_deadline : v.deadline ≤ 1000000
+  pub few_deadline : v.deadline ≤ most_time
 
 module _ (f : Plain) (wcet deadline : ℕ) where
   -- The frontier is that of the job and the roots, made by eager steps, and spent its budget.

@@ -1,6 +1,7 @@
 -- How a search of a task's walks becomes a tree of the forest and a claim.
 use Rattle.std.specs.Prelude.{◌≡◌, ℕ, ◌+◌, ◌-◌, ◌*◌, ◌≤◌, Option, None, Some, List, ◌∷◌, length, map, slice_get, All, Any}
 use Rattle.std.specs.List.{range_with_len}
+use Rattle.drt_model.specs.Limits.{most_time}
 use Rattle.drt_model.specs.Digraph.{Digraph}
 use Rattle.drt_steps.specs.Values.{value_at}
 use Rattle.drt_tree.specs.Tree.{Plain, Grows, children, leaves, walk}
@@ -44,7 +45,7 @@ pairs_from f low first count = map (λ k. pair_of low (children f k)) (range_wit
 pub record IsTaskTree (g : Digraph) (bound : ℕ) (old new : Plain) (tree : TaskTree) : Type 0 where
   pub grows : Grows old new
   pub functions : All (λ xs. length xs ≡ bound) new.pool
-  pub room : length new.nodes ≤ length old.nodes + 2 * (1000000 + 96)
+  pub room : length new.nodes ≤ length old.nodes + 2 * (most_time + 96)
   pub stands : StandsFor g bound new tree.top
   pub count : leaves new tree.top ≡ length tree.claim.walks
   pub claim : IsClaimOf g bound new tree.low tree.top tree.claim

@@ -1,5 +1,6 @@
 //! Searches of several tasks' walks, side by side and ahead of their turn.
 ghost use Rattle.std.specs.Prelude.{◌≡◌, ℕ, ◌+◌, ◌<◌, ◌≤◌, All, IfOk, IfSome, List, length};
+ghost use Rattle.drt_model.specs.Limits.{most_time};
 ghost use Rattle.drt_model.specs.Digraph.{Digraph};
 ghost use Rattle.drt_choices.specs.Choices.{IsOrder};
 ghost use Rattle.drt_claims.specs.Claims.{graphs_of};
@@ -80,7 +81,7 @@ pub(crate) fn search_ahead<G: Gate, R: Threads + Wait + Sync>(
 ) -> Result<EndsAhead, Memory>
     requires order { IsOrder given.now.set.now.tasks given.now.order.now }
     requires here { place + 1 < length given.now.order.now }
-    requires bound { (1 ≤ bound) × (bound ≤ 1000000) }
+    requires bound { (1 ≤ bound) × (bound ≤ most_time) }
     requires ahead { AreEndsAhead (graphs_of given.now.set.now.tasks) given.now.order.now bound crew.now.effort.budget ahead }
     ensures { IfOk result (AreEndsAhead (graphs_of given.now.set.now.tasks) given.now.order.now bound crew.now.effort.budget) }
 {
@@ -112,7 +113,7 @@ fn search_all<G: Gate, R: Threads + Wait + Sync>(
 ) -> Result<EndsAhead, Memory>
     requires order { IsOrder given.now.set.now.tasks given.now.order.now }
     requires here { from + length begun.now ≤ length given.now.order.now }
-    requires bound { (1 ≤ bound) × (bound ≤ 1000000) }
+    requires bound { (1 ≤ bound) × (bound ≤ most_time) }
     requires begun { All (λ i. i < length begun.now) begun.now }
     ensures { IfOk result (AreEndsAhead (graphs_of given.now.set.now.tasks) given.now.order.now bound crew.now.effort.budget) }
 {
@@ -120,7 +121,7 @@ fn search_all<G: Gate, R: Threads + Wait + Sync>(
     let alloc = crew.alloc;
     let effort = &crew.effort;
     let search = move |number: u32| -> Result<SearchEnd, Memory>
-        requires { IsOrder given.now.set.now.tasks given.now.order.now × (from + number < length given.now.order.now) × (from + number < 32) × (1 ≤ bound) × (bound ≤ 1000000) }
+        requires { IsOrder given.now.set.now.tasks given.now.order.now × (from + number < length given.now.order.now) × (from + number < 32) × (1 ≤ bound) × (bound ≤ most_time) }
         ensures { IfOk result (IsEndAt (graphs_of given.entry.now.set.now.tasks) given.entry.now.order.now bound effort.entry.now.budget (from + number)) }
     { search_at(alloc, given, from + number as usize, bound, *effort) };
     let found = look_ahead(crew, begun, search, is_spent)?;
@@ -137,7 +138,7 @@ fn search_at(
 ) -> Result<SearchEnd, Memory>
     requires order { IsOrder given.now.set.now.tasks given.now.order.now }
     requires here { place < length given.now.order.now }
-    requires bound { (1 ≤ bound) × (bound ≤ 1000000) }
+    requires bound { (1 ≤ bound) × (bound ≤ most_time) }
     ensures { IfOk result (IsEndAt (graphs_of given.now.set.now.tasks) given.now.order.now bound effort.budget place) }
 {
     let graphs = given.set.graphs();

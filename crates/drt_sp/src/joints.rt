@@ -1,5 +1,6 @@
 //! The items of several frontiers, put together side by side.
 ghost use Rattle.std.specs.Prelude.{◌≡◌, ◌≤◌, ◌<◌, ◌++◌, ℕ, true, All, IfOk, IfSome, List, None, Some, length, slice_get, slice_index_or};
+ghost use Rattle.drt_model.specs.Limits.{most_time};
 ghost use Rattle.drt_claims.specs.Ranges.{IsCounted};
 ghost use Rattle.drt_claims.specs.declared.evidence.Item.{Item};
 ghost use Rattle.drt_refine.specs.Eager.{IsEager};
@@ -91,7 +92,7 @@ fn join_parts(
 ) -> Result<Option<Row<Item>>, Memory>
     requires frontier { IsFrontier forest.now frontier.now }
     requires eager { IsEager (setting_of forest.now frontier.now) frontier.now.log }
-    requires deadline { frontier.now.deadline ≤ 1000000 }
+    requires deadline { frontier.now.deadline ≤ most_time }
     requires parts { HasParts forest.now frontier.now.wcet frontier.now.deadline frontier.now.combinations parts.old.items }
     ensures parts { HasParts forest.now frontier.now.wcet frontier.now.deadline frontier.now.combinations parts.new.items }
     ensures items { IfOk result (λ some. IfSome some (λ items. AreEndOf forest.now frontier.now.wcet frontier.now.deadline frontier.now.roots items × IsCounted items)) }

@@ -1,5 +1,6 @@
 //! The vertices of a task, proved by several workers: each ends combinations of its own.
 ghost use Rattle.std.specs.Prelude.{[], ◌≡◌, ◌≤◌, ◌<◌, ℕ, All, IfOk, IfSome, OnOk, None, length, slice_set};
+ghost use Rattle.drt_model.specs.Limits.{most_time};
 ghost use Rattle.drt_model.specs.Digraph.{vertex_count};
 ghost use Rattle.drt_model.specs.Walk.{deadline};
 ghost use Rattle.drt_sp.specs.Attempts.{AreGiven, AreTables, AreWith, CanBeEnded, HaveParts, IsAttempt, IsJob, IsPartOf};
@@ -334,8 +335,8 @@ pub(crate) fn end_combination(
     race: &Race,
 ) -> Result<Option<Row<Item>>, Memory>
     requires can { CanEnd forest.now wcet deadline nodes.now }
-    requires wcet { wcet ≤ 1000000 }
-    requires deadline { deadline ≤ 1000000 }
+    requires wcet { wcet ≤ most_time }
+    requires deadline { deadline ≤ most_time }
     ensures { IfOk result (λ some. IfSome some (AreEndOf forest.now wcet deadline nodes.now)) }
 {
     let mut items = Vec::new(alloc);
@@ -369,8 +370,8 @@ fn take_next(
     spare: &mut Vec<Row<u32>>,
 ) -> Result<Option<Item>, Memory>
     requires can { CanEnd forest.now wcet deadline nodes }
-    requires wcet { wcet ≤ 1000000 }
-    requires deadline { deadline ≤ 1000000 }
+    requires wcet { wcet ≤ most_time }
+    requires deadline { deadline ≤ most_time }
     ensures { IfOk result (λ some. IfSome some (IsNextItem forest.now wcet deadline nodes stack.old.items stack.new.items)) }
 {
     let combination = nodes.as_slice();

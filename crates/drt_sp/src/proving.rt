@@ -1,5 +1,6 @@
 //! The proof that a vertex meets its deadline, whatever walks the tasks of higher priority take.
 ghost use Rattle.std.specs.Prelude.{◌≡◌, ℕ, ◌≤◌, ◌<◌, ◌∷◌, [], All, IfOk, IfSome, IsTrue, Some, length, slice_get};
+ghost use Rattle.drt_model.specs.Limits.{most_time};
 ghost use Rattle.drt_claims.specs.Ranges.{IsCounted, IsInRangeItem};
 ghost use Rattle.drt_refine.specs.Combination.{Combination};
 ghost use Rattle.drt_refine.specs.Drive.{StopsAt};
@@ -164,7 +165,7 @@ fn settle(
     requires eager { IsEager (setting_of forest.now frontier.now) frontier.now.log }
     requires stops { StopsAt (setting_of forest.now frontier.now) (state_of frontier.now) reply }
     requires unspent { reply ≡ Spent → ⊥ }
-    requires deadline { frontier.now.deadline ≤ 1000000 }
+    requires deadline { frontier.now.deadline ≤ most_time }
     ensures { IfOk result (λ refined. (budget : ℕ) → IsRefined forest.now frontier.now.wcet frontier.now.deadline frontier.now.roots budget refined) }
 {
     over_every_interleaving();
@@ -186,7 +187,7 @@ fn items_of(alloc: Global, forest: &Forest, frontier: &Frontier) -> Result<Row<I
     requires frontier { IsFrontier forest.now frontier.now }
     requires eager { IsEager (setting_of forest.now frontier.now) frontier.now.log }
     requires finished { IsTrue (is_finished (setting_of forest.now frontier.now) (state_of frontier.now)) }
-    requires deadline { frontier.now.deadline ≤ 1000000 }
+    requires deadline { frontier.now.deadline ≤ most_time }
     ensures are { IfOk result (λ items. AreItems forest.now frontier.now.wcet frontier.now.deadline items (frontier.now.roots ∷ [])) }
     ensures in_range { IfOk result (λ items. All IsInRangeItem items × IsCounted items) }
 {

@@ -1,5 +1,7 @@
 //! The tree of a task's walks: from its graph to the forest and to the dossier.
 ghost use Rattle.std.specs.Prelude.{◌≡◌, ◌+◌, ◌*◌, ◌≤◌, All, IfOk, IfSome, length};
+ghost use Rattle.drt_effort.specs.Efforts.{most_budget};
+ghost use Rattle.drt_model.specs.Limits.{most_time};
 ghost use Rattle.drt_request.specs.Request.{request_algebra};
 ghost use Rattle.drt_table.specs.Drive.{StopsAt};
 ghost use Rattle.drt_table.specs.View.{setting_of};
@@ -47,7 +49,7 @@ fn search(
     effort: Effort,
 ) -> Result<(Table<RequestLabel>, TableReply), Memory>
     requires from { 1 ≤ bound }
-    requires to { bound ≤ 1000000 }
+    requires to { bound ≤ most_time }
     ensures setting { IfOk result (λ end. setting_of end.0 ≡ search_of graph.now bound effort.budget) }
     ensures stops { IfOk result (λ end. StopsAt request_algebra end.0 end.1) }
 {
@@ -72,7 +74,7 @@ pub(crate) fn search_leaves(
     effort: Effort,
 ) -> Result<SearchEnd, Memory>
     requires from { 1 ≤ bound }
-    requires to { bound ≤ 1000000 }
+    requires to { bound ≤ most_time }
     ensures { IfOk result (IsSearchEnd graph.now bound effort.budget) }
 {
     let (table, _reply) = search(alloc, graph, bound, effort)?;
@@ -81,7 +83,7 @@ pub(crate) fn search_leaves(
 
 // How a search that was driven to its end ended.
 fn end_of(alloc: Global, table: &Table<RequestLabel>) -> Result<SearchEnd, Memory>
-    requires few { table.now.budget ≤ 1000000 }
+    requires few { table.now.budget ≤ most_budget }
     requires stops { (reply : TableReply) × StopsAt request_algebra table.now reply }
     ensures { IfOk result (IsSearchEnd table.now.graph table.now.bound table.now.budget) }
 {
@@ -102,7 +104,7 @@ fn take_or_search(
     effort: Effort,
 ) -> Result<SearchEnd, Memory>
     requires from { 1 ≤ bound }
-    requires to { bound ≤ 1000000 }
+    requires to { bound ≤ most_time }
     requires found { IfSome found (IsSearchEnd graph.now bound effort.budget) }
     ensures { IfOk result (IsSearchEnd graph.now bound effort.budget) }
 {
@@ -122,10 +124,10 @@ pub(crate) fn plant_tree(
     forest: &mut Forest,
 ) -> Result<TreeSearch, Memory>
     requires from { 1 ≤ bound }
-    requires to { bound ≤ 1000000 }
+    requires to { bound ≤ most_time }
     requires found { IfSome found (IsSearchEnd graph.now bound effort.budget) }
     requires functions { All (λ xs. length xs ≡ bound) forest.old.pool }
-    requires room { length forest.old.nodes + 2 * (1000000 + 96) ≤ 4294967295 }
+    requires room { length forest.old.nodes + 2 * (most_time + 96) ≤ 4294967295 }
     ensures { IfOk result (IsTreeSearch graph.now bound effort.budget forest.old forest.new) }
 {
     let end = take_or_search(alloc, graph, bound, found, effort)?;
@@ -153,9 +155,9 @@ pub fn search_tree(
     forest: &mut Forest,
 ) -> Result<TreeSearch, Memory>
     requires from { 1 ≤ bound }
-    requires to { bound ≤ 1000000 }
+    requires to { bound ≤ most_time }
     requires functions { All (λ xs. length xs ≡ bound) forest.old.pool }
-    requires room { length forest.old.nodes + 2 * (1000000 + 96) ≤ 4294967295 }
+    requires room { length forest.old.nodes + 2 * (most_time + 96) ≤ 4294967295 }
     ensures { IfOk result (IsTreeSearch graph.now bound effort.budget forest.old forest.new) }
 {
     plant_tree(alloc, graph, bound, None, effort, forest)

@@ -1,6 +1,7 @@
 -- What holds of the subject of a search, and what is said of answers to it.
 use Rattle.std.specs.Prelude.{◌≤◌, length}
 use Rattle.std.specs.List.{All}
+use Rattle.drt_model.specs.Limits.{most_time}
 use Rattle.drt_check_states.specs.Crests.{AreCrests}
 use Rattle.drt_check_states.specs.Curves.{HasRisingCurves}
 use Rattle.drt_check_states.specs.Places.{AreTasks, graphs_at}
@@ -17,9 +18,9 @@ pub record IsStateSubject (s : Subject) : Type 0 where
   pub tails : All HasRisingCurves s.tails.now
   pub crests : AreCrests s.tails.now s.crests.now
   pub few : length s.order.now ≤ 31
-  pub wcet : s.wcet ≤ 1000000
+  pub wcet : s.wcet ≤ most_time
   pub some : 1 ≤ s.deadline
-  pub most : s.deadline ≤ 1000000
+  pub most : s.deadline ≤ most_time
 
 -- What is said of an answer to the search of a subject.
 abbrev pub IsAnswerTo : Subject → Searched → Type 0

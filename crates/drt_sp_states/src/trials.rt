@@ -1,5 +1,6 @@
 //! Whether walks of the tasks of higher priority leave a job time.
 ghost use Rattle.std.specs.Prelude.{◌≤◌, List, [], ◌∷◌, ◌++◌, IfOk, IfSome, length};
+ghost use Rattle.drt_model.specs.Limits.{most_time};
 ghost use Rattle.drt_model.specs.Digraph.{Digraph};
 ghost use Rattle.drt_check_states.specs.Places.{AreTasks, graphs_at};
 ghost use Rattle.drt_sp_states.specs.Subjects.{IsStateSubject, IsTrialOf};
@@ -68,7 +69,7 @@ fn pool_walks(
     requires order { AreTasks graphs.now order.now }
     requires few { length order.now ≤ 31 }
     requires some { 1 ≤ deadline }
-    requires most { deadline ≤ 1000000 }
+    requires most { deadline ≤ most_time }
     ensures { IfOk result (λ r. IfSome r (ArePooled deadline (graphs_at graphs.now order.now))) }
 {
     if walks.len() != order.len() {

@@ -1,5 +1,6 @@
 //! Walks and what they ask for.
 ghost use Rattle.std.specs.Prelude.{◌≡◌, ◌≤◌, IfOk, IfSome, OnOk};
+ghost use Rattle.drt_model.specs.Limits.{most_time};
 ghost use Rattle.drt_sp_states.specs.Walks.{IsMadeWalk};
 
 use drt_graph::Graph;
@@ -23,7 +24,7 @@ pub(crate) fn make_walk(
     vertices: &[u32],
 ) -> Result<Option<Made>, Memory>
     requires some { 1 ≤ bound }
-    requires most { bound ≤ 1000000 }
+    requires most { bound ≤ most_time }
     ensures { IfOk result (λ r. IfSome r (IsMadeWalk graph.now bound)) }
 {
     if vertices.is_empty() {
@@ -43,7 +44,7 @@ pub(crate) fn make_walk(
 // The walk of one vertex.
 fn begin_walk(alloc: Global, graph: &Graph, bound: u64, vertex: u32) -> Result<Option<Made>, Memory>
     requires some { 1 ≤ bound }
-    requires most { bound ≤ 1000000 }
+    requires most { bound ≤ most_time }
     ensures { IfOk result (λ r. IfSome r (IsMadeWalk graph.now bound)) }
 {
     if vertex >= graph.vertex_count() {

@@ -1,5 +1,6 @@
 -- What the code keeps of a function: a base, and rises that come after given times.
 use Rattle.std.specs.Prelude.{ℕ, suc, zero, ◌≡◌, ◌+◌, ◌-◌, ◌*◌, ◌/◌, ◌≤◌, ◌<◌, max, nat_lt, nat_le, cond, Some, List, [], ◌∷◌, ◌++◌, length, slice_get, slice_index, slice_index_or}
+use Rattle.drt_model.specs.Limits.{most_time}
 use Rattle.drt_steps.specs.declared.jump.Jump.{Jump}
 use Rattle.drt_steps.specs.Values.{value_at}
 
@@ -35,7 +36,7 @@ values bound base jumps = values_from (λ t. base + risen jumps t) 1 bound
 -- What is true of the bound, the base and the jumps that are kept for a function.
 pub record AreKept (bound base : ℕ) (jumps : List Jump) : Type 0 where
   pub from : 1 ≤ bound
-  pub to : bound ≤ 1000000
+  pub to : bound ≤ most_time
   pub small : base + total_rise jumps ≤ 1000000000000
   pub order : AreFrom 1 jumps
   pub below : AreJumpsBefore bound jumps

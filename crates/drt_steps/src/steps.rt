@@ -2,6 +2,7 @@
 ghost use Rattle.std.specs.Prelude.{◌≡◌, ℕ, ◌+◌, ◌≤◌, ◌<◌, true, false, length, replicate, reverse, IfOk};
 ghost use Rattle.std.specs.Ordering.{nat_cmp};
 ghost use Rattle.std.specs.Cmp.Lexicographic.{slice_cmp};
+ghost use Rattle.drt_model.specs.Limits.{most_time};
 ghost use Rattle.drt_steps.specs.Values.{raise, value_at, covers, max_of};
 ghost use Rattle.drt_steps.specs.Jumps.{values, AreKept, IsFunctionKept, AreMarks};
 ghost use Rattle.drt_steps.specs.Samples.{samples_of};
@@ -92,7 +93,7 @@ impl Steps {
     /// The function that has one value at each of 1 to `bound`.
     pub fn flat(alloc: Global, bound: u64, value: u64) -> Result<Steps, AllocError>
         requires from { 1 ≤ bound }
-        requires to { bound ≤ 1000000 }
+        requires to { bound ≤ most_time }
         requires value { value ≤ 1000000000000 }
         ensures { IfOk result (λ s. s ≡ replicate bound value) }
     {
@@ -115,7 +116,7 @@ impl Steps {
     pub fn bound(&self) -> u64
         ensures value { result ≡ length self.now }
         ensures from { 1 ≤ result }
-        ensures to { result ≤ 1000000 }
+        ensures to { result ≤ most_time }
     {
         self.bound
     }

@@ -1,5 +1,6 @@
 //! The least time by which a job and the work ahead of it are done.
 ghost use Rattle.std.specs.Prelude.{◌≡◌, ℕ, ◌+◌, ◌*◌, ◌≤◌, length};
+ghost use Rattle.drt_model.specs.Limits.{most_time};
 ghost use Rattle.drt_steps.specs.Time.{IsLeastTimeOf, AreChosen, sum_at};
 
 use crate::steps::Steps;
@@ -26,7 +27,7 @@ fn sum_of(pool: &[Steps], chosen: &[u32], places: &mut [usize; 31], t: u64, dead
 /// isn't, no time below the sum at it is one: so it goes from each time to the sum at it, and never tick by tick. It
 /// goes once through the rises of each chosen function, and takes no memory. It is the usual iteration for response times (Joseph and Pandya, 1986), for any functions that never fall.
 pub fn least_time(wcet: u64, deadline: u64, pool: &[Steps], chosen: &[u32]) -> Option<u64>
-    requires wcet { wcet ≤ 1000000 }
+    requires wcet { wcet ≤ most_time }
     requires chosen { AreChosen deadline pool.now chosen.now }
     requires few { length chosen.now ≤ 31 }
     ensures { IsLeastTimeOf wcet deadline pool.now chosen.now result }

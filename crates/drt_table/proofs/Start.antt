@@ -6,6 +6,7 @@ use Rattle.drt_model.specs.Digraph.{IsSoundGraph, vertex_of}
 use Rattle.std.specs.Prelude.{◌&&◌, ◌==◌, IsTrue}
 use Rattle.std.proofs.lemmas.Option.{none-some, same_Some}
 use Rattle.std.proofs.lemmas.Bool.Decides.{nat_tests}
+use Rattle.drt_effort.specs.Efforts.{most_budget}
 use Rattle.drt_model.specs.declared.tasks.Vertex.{Vertex}
 use Rattle.drt_table.specs.Arena.{Stock, HasNodes}
 use Rattle.drt_table.specs.Held.{AllOf, fresh_held}
@@ -135,7 +136,7 @@ module _ {L : Type 0} (a : Algebra L) (laws : Laws a) (t : Setting) (n v : ℕ) 
   }
 
 -- a table at its start keeps what the type keeps
-pub table_starts : {L : Type 0} (a : Algebra L) (v : View L) (t : Setting) → setting_of v ≡ t → IsSoundGraph t.graph → IsTrue (a.takes_bound t.bound) → t.budget ≤ 1000000
+pub table_starts : {L : Type 0} (a : Algebra L) (v : View L) (t : Setting) → setting_of v ≡ t → IsSoundGraph t.graph → IsTrue (a.takes_bound t.bound) → t.budget ≤ most_budget
     → map (λ (h : Held L). h.node) v.nodes ≡ (opening_state a t).nodes → v.log ≡ [] → IsTable a v
 table_starts {L} a v t set sound bound budget nodes log =
     let ns : List (NodeOf L) = (opening_state a (setting_of v)).nodes in
@@ -144,7 +145,7 @@ table_starts {L} a v t set sound bound budget nodes log =
     record {
       sound = subst (λ (x : Setting). IsSoundGraph x.graph) (sym set) sound;
       bound = subst (λ (x : Setting). IsTrue (a.takes_bound x.bound)) (sym set) bound;
-      budget = subst (λ (x : Setting). x.budget ≤ 1000000) (sym set) budget;
+      budget = subst (λ (x : Setting). x.budget ≤ most_budget) (sym set) budget;
       run = subst (λ es. IsRun a (setting_of v) es) (sym log) tt;
       state = ap (λ xs. record { nodes = xs; log = v.log }) nodes_are ∙ (ap (λ es. record { nodes = ns; log = es }) log ∙ as_replayed);
     }

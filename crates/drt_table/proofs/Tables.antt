@@ -4,6 +4,8 @@ use Rattle.std.specs.Prelude.{slice_get, IsTrue, option_map, is_none, is_some, n
 use Rattle.std.proofs.lemmas.Bool.{le-leb, lt-leb}
 use Rattle.std.proofs.lemmas.List.{length-map, map-append}
 use Rattle.std.proofs.lemmas.Option.{none-some, same_Some, slice_get-map, slice_get_within}
+use Rattle.drt_effort.specs.Efforts.{most_budget}
+use Rattle.drt_model.specs.Limits.{most_time}
 use Rattle.drt_label.specs.Algebra.{Algebra, Laws}
 use Rattle.drt_model.specs.Digraph.{Digraph, IsSoundGraph, vertex_of, edge_of, out_degree}
 use Rattle.drt_table.specs.Node.{NodeOf, Held, is_kept, is_node_pending, is_taken, is_taken_state, fresh}
@@ -45,7 +47,7 @@ module _ {L : Type 0} (a : Algebra L) (laws : Laws a) (v : View L) (is : IsTable
   nodes_small =
       let h : length v.nodes ≤ length v.graph.vertices + length v.log = nodes_few in
       let g : length v.log ≤ v.budget = log_within in
-      let b : v.budget ≤ 1000000 = is.budget in
+      let b : v.budget ≤ most_budget = is.budget in
       let few : length v.graph.vertices ≤ 96 = is.sound.few in
       omega arith
 
@@ -289,7 +291,7 @@ table_more {L} a old new w step r is can h log =
     record {
       sound = subst (λ (g : Digraph). IsSoundGraph g) (ap (λ (x : Setting). x.graph) (sym h.setting)) is.sound;
       bound = subst (λ (x : ℕ). IsTrue (a.takes_bound x)) (ap (λ (x : Setting). x.bound) (sym h.setting)) is.bound;
-      budget = subst (λ (x : ℕ). x ≤ 1000000) (ap (λ (x : Setting). x.budget) (sym h.setting)) is.budget;
+      budget = subst (λ (x : ℕ). x ≤ most_time) (ap (λ (x : Setting). x.budget) (sym h.setting)) is.budget;
       run = subst (λ (x : Setting). IsRun a x new.log) (sym h.setting) (subst (λ (es : List Entry). IsRun a t es) (sym log) run);
       state = subst (λ (x : Setting). state_of new ≡ replay a x new.log) (sym h.setting) (state ∙ ap (λ es. replay a t es) (sym log));
     }
@@ -382,7 +384,7 @@ table_same_nodes {L} a old new id is set nodes log =
     record {
       sound = subst (λ (g : Digraph). IsSoundGraph g) (ap (λ (x : Setting). x.graph) (sym set)) is.sound;
       bound = subst (λ (x : ℕ). IsTrue (a.takes_bound x)) (ap (λ (x : Setting). x.bound) (sym set)) is.bound;
-      budget = subst (λ (x : ℕ). x ≤ 1000000) (ap (λ (x : Setting). x.budget) (sym set)) is.budget;
+      budget = subst (λ (x : ℕ). x ≤ most_time) (ap (λ (x : Setting). x.budget) (sym set)) is.budget;
       run = subst (λ (x : Setting). IsRun a x new.log) (sym set) (subst (λ (es : List Entry). IsRun a (setting_of old) es) (sym log) is.run);
       state = subst (λ (x : Setting). state_of new ≡ replay a x new.log) (sym set) (same ∙ (is.state ∙ ap (λ es. replay a (setting_of old) es) (sym log)));
     }

@@ -1,5 +1,6 @@
 -- What contracts see of a table.
 use Rattle.std.specs.Prelude.{◌≡◌, ℕ, ◌≤◌, Bool, true, IsTrue, Option, Some, None, List, [], ◌∷◌, ◌++◌, map, slice_get, ◌&&◌, ◌==◌}
+use Rattle.drt_effort.specs.Efforts.{most_budget}
 use Rattle.drt_label.specs.Algebra.{Algebra}
 use Rattle.drt_model.specs.Digraph.{Digraph, IsSoundGraph}
 use Rattle.drt_table.specs.Node.{NodeOf, Held, is_kept}
@@ -31,7 +32,7 @@ module _ {L : Type 0} (v : View L) where
 pub record IsTable {L : Type 0} (a : Algebra L) (v : View L) : Type 0 where
   pub sound : IsSoundGraph v.graph
   pub bound : IsTrue (a.takes_bound v.bound)
-  pub budget : v.budget ≤ 1000000
+  pub budget : v.budget ≤ most_budget
   pub run : IsRun a (setting_of v) v.log
   pub state : state_of v ≡ replay a (setting_of v) v.log
 

@@ -2,6 +2,7 @@
 
 ghost use Rattle.std.specs.Prelude.{◌≡◌, ℕ, ◌+◌, ◌≤◌, ◌<◌, ◌++◌, ◌∷◌, [], true, Some, slice_get, length, IfOk, IfSome, IsTrue, map, nat_le, replicate, vec_capacity};
 ghost use Rattle.std.specs.Prelude.{None, if◌then◌else◌};
+ghost use Rattle.drt_effort.specs.Efforts.{most_budget};
 ghost use Rattle.drt_table.specs.View.{View, IsTable, setting_of, state_of, spares_of, CanApply, ComesWith, IsTableStep};
 ghost use Rattle.drt_table.specs.Machine.{opening_state, extended};
 ghost use Rattle.drt_worklist.specs.Places.{changed};
@@ -83,7 +84,7 @@ fn opening_arena<L: Label>(
     budget: u64,
 ) -> Result<Arena<L>, Memory>
     requires bound { IsTrue (L.algebra.takes_bound bound) }
-    requires budget { budget ≤ 1000000 }
+    requires budget { budget ≤ most_budget }
     ensures nodes { IfOk result (λ arena. map (λ h. h.node) arena.nodes ≡ (opening_state L.algebra (record { graph = graph.now; bound = bound; budget = budget })).nodes) }
     ensures spares { IfOk result (λ arena. map (λ h. h.spare) arena.nodes ≡ replicate (length arena.nodes) true) }
     ensures vertices { IfOk result (λ arena. arena.vertices ≡ vertex_count graph.now) }
@@ -106,7 +107,7 @@ impl<L: Label> Table<L> {
     /// log may have.
     pub fn start(alloc: Global, graph: &Graph, bound: u64, budget: u64) -> Result<Table<L>, Memory>
         requires bound { IsTrue (L.algebra.takes_bound bound) }
-        requires budget { (1 ≤ budget) × (budget ≤ 1000000) }
+        requires budget { (1 ≤ budget) × (budget ≤ most_budget) }
         ensures setting { IfOk result (λ table. setting_of table ≡ record { graph = graph.now; bound = bound; budget = budget }) }
         ensures state { IfOk result (λ table. state_of table ≡ opening_state L.algebra (record { graph = graph.now; bound = bound; budget = budget })) }
         ensures spares { IfOk result (λ table. spares_of table ≡ replicate (length table.nodes) true) }

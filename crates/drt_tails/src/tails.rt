@@ -1,5 +1,7 @@
 //! The tail of a graph.
 ghost use Rattle.std.specs.Prelude.{◌≤◌, IfOk, IfSome};
+ghost use Rattle.drt_effort.specs.Efforts.{most_budget};
+ghost use Rattle.drt_model.specs.Limits.{most_time};
 ghost use Rattle.drt_states.specs.Tails.{IsTail, BoundsWalks};
 ghost use Rattle.drt_tails.specs.Attained.{IsAttained};
 
@@ -20,8 +22,8 @@ pub fn find_tail(
     budget: u64,
 ) -> Result<Option<TailClaim>, Memory>
     requires some { 1 ≤ bound }
-    requires bound { bound ≤ 1000000 }
-    requires few { budget ≤ 1000000 }
+    requires bound { bound ≤ most_time }
+    requires few { budget ≤ most_budget }
     ensures tail { IfOk result (λ r. IfSome r (IsTail bound graph.now)) }
     ensures bounds { IfOk result (λ r. IfSome r (BoundsWalks bound graph.now)) }
     ensures attained { IfOk result (λ r. IfSome r (IsAttained graph.now)) }

@@ -7,7 +7,7 @@ use Rattle.drt_model.specs.declared.jobs.Policy.{Policy}
 use Rattle.drt_model.specs.declared.jobs.Release.{Release}
 use Rattle.drt_model.specs.declared.tasks.Task.{Task}
 use Rattle.drt_model.specs.Legal.{IsLegal}
-use Rattle.drt_model.specs.Limits.{IsTask, IsTaskSet, IsVertex}
+use Rattle.drt_model.specs.Limits.{IsTask, IsTaskSet, IsVertex, most_time}
 use Rattle.drt_model.specs.Schedulable.{jobs_of}
 use Rattle.drt_model.specs.Trace.{job_at, pick, done, IsFinish, Misses}
 use Rattle.drt_model.proofs.JobLemmas.{job_at-jobs_of, known, length-jobs_of, no_release}
@@ -61,7 +61,7 @@ module _ (policy : Policy) (jobs : List Job) (j n d : ℕ) (misses : Misses poli
       subst (IsFinish policy jobs j) sum finish
 
 -- legal releases need at most what a vertex may
-pub need_small : (version : ℕ) (tasks : List Task) → IsTaskSet version tasks → (rs : List Release) → IsLegal tasks rs → All (λ r. r.need ≤ 1000000) rs
+pub need_small : (version : ℕ) (tasks : List Task) → IsTaskSet version tasks → (rs : List Release) → IsLegal tasks rs → All (λ r. r.need ≤ most_time) rs
 need_small version tasks set rs legal i d h =
     let k = known tasks (get_or rs i d) (allowed_if_legal tasks rs legal i d h) in
     let task : IsTask version k.task = subst (IsTask version) (get_or_from_slice_get tasks (get_or rs i d).task k.task k.task k.is_task)
@@ -83,8 +83,8 @@ module _ (tasks : List Task) (rs : List Release) where
       omega (arith, ap (λ job. job.need) (job_at-jobs_of tasks rs j here), small j no_release here)
 
   -- a job of legal releases at times of at most 10^18 ticks is done after 2^62
-  pub done_in_the_end : (policy : Policy) → All (λ r. r.time ≤ 10 ^ 18) rs → All (λ r. r.need ≤ 1000000) rs → length rs < 2 ^ 32
+  pub done_in_the_end : (policy : Policy) → All (λ r. r.time ≤ 10 ^ 18) rs → All (λ r. r.need ≤ most_time) rs → length rs < 2 ^ 32
       → (j : ℕ) → j < length (jobs_of tasks rs) → done policy (jobs_of tasks rs) j 4611686018427387904 ≡ (job_at (jobs_of tasks rs) j).need
   done_in_the_end policy times needs few j h =
-      all_done policy (jobs_of tasks rs) 1000000 (job_need 1000000 needs) (10 ^ 18) (job_time (10 ^ 18) times) j 4611686018427387904 h
+      all_done policy (jobs_of tasks rs) most_time (job_need most_time needs) (10 ^ 18) (job_time (10 ^ 18) times) j 4611686018427387904 h
       (omega (arith, few, length-jobs_of tasks rs))

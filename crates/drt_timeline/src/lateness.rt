@@ -1,5 +1,6 @@
 //! How late a job finishes that misses its deadline.
 ghost use Rattle.std.specs.Prelude.{◌≡◌, ◌+◌, ◌^◌, ◌<◌, ◌≤◌, All, IfOk, length};
+ghost use Rattle.drt_model.specs.Limits.{most_time};
 ghost use Rattle.drt_model.specs.Legal.{IsLegal};
 ghost use Rattle.drt_model.specs.Schedulable.{jobs_of};
 ghost use Rattle.drt_model.specs.Trace.{IsFinish, Misses, job_at};
@@ -39,7 +40,7 @@ pub fn lateness_of(
 // Each of legal releases needs at most 10^6 ticks, as its vertex does.
 fn needs_are_small(set: &TaskSet, releases: &[Release])
     requires { IsLegal set.now.tasks releases.now }
-    ensures { All (λ r. r.need ≤ 1000000) releases.now }
+    ensures { All (λ r. r.need ≤ most_time) releases.now }
 {
     let _tasks = set.tasks();
 }

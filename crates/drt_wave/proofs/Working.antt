@@ -2,6 +2,7 @@
 use Rattle.std.proofs.Common.{◌≡◌, ℕ, suc, ◌+◌, ◌*◌, ◌/◌, ◌%◌, ◌^◌, ◌<◌, ◌≤◌, List, [], ◌∷◌, sym, refl, ap, ◌∙◌, subst, arith}
 use Rattle.std.proofs.Math.Nat.{mod-lt}
 use Rattle.std.proofs.lemmas.Nat.{mul-le, div-mul-add, mod-mul-add, div-add-mod', div_below}
+use Rattle.drt_model.specs.Limits.{most_time}
 use Rattle.drt_model.specs.declared.tasks.Edge.{Edge}
 use Rattle.drt_model.specs.Digraph.{vertex_count, out_edges, out_degree, edge_of}
 use Rattle.drt_model.specs.Walk.{wcet, deadline}
@@ -12,7 +13,7 @@ use Rattle.drt_wave.proofs.Cells.{arc_among, of_walk, to_walk, cell_lt, cell_ver
 
 module _ (p : Plan) where
   -- the work of a walk is at most a million times its offset and one
-  walk_small : IsWavePlan p → (v : ℕ) (before : List ℕ) (s x : ℕ) → WalkTo p v before s x → x ≤ 1000000 * (s + 1)
+  walk_small : IsWavePlan p → (v : ℕ) (before : List ℕ) (s x : ℕ) → WalkTo p v before s x → x ≤ most_time * (s + 1)
   walk_small plan v [] s x walk = let w = plan.sound.wcet v walk.0 in omega (arith, w.1, walk.2)
   walk_small plan v (u ∷ before) s x walk =
       let was = walk_small plan u before walk.1 walk.2 walk.3 in
@@ -22,17 +23,17 @@ module _ (p : Plan) where
       let w = plan.sound.wcet v to in
       omega (arith, w.1, walk.7, walk.6, sep.0)
 
-  pub reached_small : IsWavePlan p → (v s x : ℕ) → s ≤ p.bound → Reached (net_of p) (cell_at p v s) x → x ≤ 1000000 * (s + 1)
+  pub reached_small : IsWavePlan p → (v s x : ℕ) → s ≤ p.bound → Reached (net_of p) (cell_at p v s) x → x ≤ most_time * (s + 1)
   reached_small plan v s x le r =
       let walk = to_walk p r.0 (cell_at p v s) x r.1 in
       let small = walk_small plan (cell_at p v s / width p) walk.0 (cell_at p v s % width p) x walk.1 in
-      subst (λ z. x ≤ 1000000 * (z + 1)) (cell_offset p v s le) small
+      subst (λ z. x ≤ most_time * (z + 1)) (cell_offset p v s le) small
 
   pub bound_small : IsWavePlan p → (n : ℕ) → n ≤ 4194304 → n ≡ vertex_count p.graph * width p → p.bound < 4194304
   bound_small plan n small is =
       let one : 1 * width p ≤ vertex_count p.graph * width p = mul-le 1 (width p) (vertex_count p.graph) (width p) plan.sound.some (omega arith) in omega (arith, one, is)
 
-  pub sum_fits : IsWavePlan p → (n v s x w : ℕ) → n ≤ 4194304 → n ≡ vertex_count p.graph * width p → s ≤ p.bound → Reached (net_of p) (cell_at p v s) x → w ≤ 1000000 → x + w < 2 ^ 64
+  pub sum_fits : IsWavePlan p → (n v s x w : ℕ) → n ≤ 4194304 → n ≡ vertex_count p.graph * width p → s ≤ p.bound → Reached (net_of p) (cell_at p v s) x → w ≤ most_time → x + w < 2 ^ 64
   sum_fits plan n v s x w small is le r some = omega (arith, reached_small plan v s x le r, bound_small plan n small is)
 
   -- a walk that goes on by an edge

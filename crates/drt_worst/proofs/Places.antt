@@ -2,6 +2,7 @@
 use Rattle.std.proofs.Common.{◌≡◌, ℕ, suc, zero, ◌<◌, ◌≤◌, ◌⊎◌, Some, List, [], ◌∷◌, length, refl, sym, ap, subst, inl, inr, arith, set}
 use Rattle.std.specs.Prelude.{slice_get}
 use Rattle.std.proofs.lemmas.Option.{none-some, same_Some}
+use Rattle.drt_model.specs.Limits.{most_time}
 use Rattle.drt_steps.specs.Time.{AreChosen, Passes}
 use Rattle.drt_tree.specs.Tree.{Plain, IsForest, IsPair, node_values_in}
 use Rattle.drt_tree.proofs.Trees.{child_within}
@@ -71,7 +72,7 @@ chosen_nodes f d (n ∷ nodes) sound h =
     (omega arith, chosen_nodes f d nodes sound h.2)
 
 -- the conditions of a search
-pub roots_ready : (f : Plain) (wcet deadline : ℕ) (roots : List ℕ) → IsForest f → length roots ≤ 31 → AreChosen deadline f.pool roots → wcet ≤ 1000000
+pub roots_ready : (f : Plain) (wcet deadline : ℕ) (roots : List ℕ) → IsForest f → length roots ≤ 31 → AreChosen deadline f.pool roots → wcet ≤ most_time
     → ((tuple : List ℕ) → AreBelow f tuple roots → (t : ℕ) × Passes wcet deadline f.pool tuple t) → IsSearchReady (search_for f wcet deadline) roots
 roots_ready f wcet deadline roots sound few chosen small passes = record {
   forest = sound;

@@ -1,5 +1,6 @@
 -- What a pass is between two turns.
 use Rattle.std.specs.Prelude.{◌≡◌, ℕ, ◌≤◌, ◌⊎◌, List, [], ◌∷◌, length, map, reverse, IfSome}
+use Rattle.drt_model.specs.Limits.{most_time}
 use Rattle.atomic_table.specs.Seated.{TableId}
 use Rattle.drt_tree.specs.Tree.{IsForest}
 use Rattle.drt_refine.specs.Below.{AreBelow}
@@ -66,6 +67,6 @@ HasRun s roots p = HasRunWith s roots (reverse p.stack.items) p
 -- What a search supposes: a forest, roots whose least time can be looked for, and a time that passes for each tuple below them.
 pub record IsSearchReady (s : Search) (roots : List ℕ) : Type 0 where
   pub forest : IsForest s.forest
-  pub wcet : s.wcet ≤ 1000000
+  pub wcet : s.wcet ≤ most_time
   pub take : CanTake s.forest s.deadline roots
   pub passes : (tuple : List ℕ) → AreBelow s.forest tuple roots → (t : ℕ) × PassesFor s tuple t

@@ -1,6 +1,7 @@
 //! What to do with a combination.
 
 ghost use Rattle.std.specs.Prelude.{◌≡◌, ℕ, ◌<◌, ◌≤◌, length, Some, IfSome, IfOk, slice_set};
+ghost use Rattle.drt_model.specs.Limits.{most_time};
 ghost use Rattle.drt_steps.specs.Time.{IsLeastTimeOf};
 ghost use Rattle.drt_refine.specs.Below.{AreNodes, IsConcrete};
 ghost use Rattle.drt_refine.specs.Eager.{IsSplitPlace};
@@ -63,7 +64,7 @@ pub(crate) fn make_plan(
     nodes: &[u32],
     seen: u64,
 ) -> Result<Plan, Memory>
-    requires wcet { subject.wcet ≤ 1000000 }
+    requires wcet { subject.wcet ≤ most_time }
     requires take { CanTake subject.forest.now subject.deadline nodes.now }
     requires some { IsConcrete subject.forest.now nodes.now → (t : ℕ) × PassesFor (search_over subject) nodes.now t }
     ensures { IfOk result (λ p. IsFit (search_over subject.entry) nodes.now seen (choice_of p)) }

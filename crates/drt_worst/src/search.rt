@@ -1,6 +1,7 @@
 //! The greatest least time over all tuples below some roots.
 ghost use Rattle.std.specs.Prelude.{◌≡◌, ◌≢◌, ℕ, ◌+◌, ◌-◌, ◌<◌, ◌≤◌, List, [], Some, length, slice_get, false, true, IfOk, IfSome, IfNone, IsSome, option_map, vec_len};
 ghost use Rattle.std.specs.Result.{OnOk};
+ghost use Rattle.drt_model.specs.Limits.{most_time};
 ghost use Rattle.drt_tree.specs.Tree.{IsForest};
 ghost use Rattle.drt_refine.specs.Below.{AreBelow, AreNodes};
 ghost use Rattle.drt_worst.specs.Splitting.{AreParts, IsPart};
@@ -362,8 +363,8 @@ pub fn worst<G: Gate, R: Threads + Wait + Sync>(
 ) -> Result<Worst, Memory>
     requires few { length roots.now ≤ 31 }
     requires roots { AreChosen deadline forest.now.pool roots.now }
-    requires wcet { (1 ≤ wcet) × (wcet ≤ 1000000) }
-    requires deadline { (1 ≤ deadline) × (deadline ≤ 1000000) }
+    requires wcet { (1 ≤ wcet) × (wcet ≤ most_time) }
+    requires deadline { (1 ≤ deadline) × (deadline ≤ most_time) }
     requires passes { (tuple : List ℕ) → AreBelow forest.now tuple roots.now → (t : ℕ) × Passes wcet deadline forest.now.pool tuple t }
     ensures { IfOk result (λ w. IsWorst (search_for forest.now wcet deadline) roots.now crew.now.effort.budget w) }
 {

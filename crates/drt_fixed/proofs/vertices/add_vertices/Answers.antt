@@ -1,6 +1,7 @@
 use Rattle.std.proofs.Common.{◌≡◌, ◌<◌, ◌≤◌, ℕ, All, length, ap, subst, sym, arith}
 use Rattle.std.proofs.lemmas.List.{length-map}
 use Rattle.std.proofs.lemmas.List.Elements.{All-push}
+use Rattle.drt_model.specs.Limits.{most_time}
 use Rattle.drt_model.specs.Digraph.{digraph_of, vertex_count}
 use Rattle.drt_model.specs.Walk.{deadline}
 use Rattle.drt_graph.specs.Graphs.{graph_of}
@@ -26,6 +27,6 @@ loop-vertex-preserved c =
       task = subst (λ (a : VertexAt). a.task < length tasks) at (omega (arith, c.requires.given.order c.args.place 0 c.requires.place, length-map tasks digraph_of));
       vertex = subst (λ (a : VertexAt). a.vertex < vertex_count (graph_of graphs a.task)) at (subst (λ g. u < vertex_count g) same here);
       deadline = subst (λ (a : VertexAt). a.deadline ≡ deadline (graph_of graphs a.task) a.vertex) at (ap (λ g. deadline g u) same);
-      near = subst (λ (a : VertexAt). a.deadline ≤ 1000000) at (c.graph-graph.ensures.sound.deadline u here).1;
+      near = subst (λ (a : VertexAt). a.deadline ≤ most_time) at (c.graph-graph.ensures.sound.deadline u here).1;
     } in
     subst (All Is) (sym c.in_ok-push.ensures.items) (All-push Is c.loop-vertex.vertices.items c.placed_vertex.result c.loop-vertex.invariant is)

@@ -1,5 +1,6 @@
 -- The releases of the walks are a no.
 use Rattle.std.proofs.Common.{◌≡◌, ◌<◌, ◌≤◌, List, ℕ, length, ap, arith, ◌∙◌}
+use Rattle.drt_model.specs.Limits.{most_time}
 use Rattle.drt_model.specs.Contents.{Contents}
 use Rattle.drt_model.specs.declared.tasks.Task.{Task}
 use Rattle.drt_model.specs.Digraph.{vertex_count, vertex_of}
@@ -25,7 +26,7 @@ all_releases-requires-clause-walks c =
     let graph : c.graph.result.now ≡ graph_at set.tasks k = c.graph.ensures.graph ∙ (ap (λ gs. graph_of gs k) c.graphs-graphs.ensures.graphs ∙ graph_same set.tasks k given.task) in
     let within : v < vertex_count c.graph.result.now = omega (arith, c.requires.vertex, ap (λ g. vertex_count g) graph) in
     let near = c.graph.ensures.sound.deadline v within in
-    let small : n ≤ 1000000 = omega (arith, near.1, ap (λ x. x.deadline) c.vertex.ensures) in
+    let small : n ≤ most_time = omega (arith, near.1, ap (λ x. x.deadline) c.vertex.ensures) in
     let walks : ℕ → List ℕ = walk_at c.as_slice.result.now in
     let same : (i : ℕ) → i < length set.tasks → walks i ≡ job_walk set.tasks c.args.walks.now k v n i
     = λ i l. ap (λ (ws : List (List ℕ)). walk_at ws i) c.as_slice.ensures.value ∙ c.in_ok-chosen.ensures.each i l in

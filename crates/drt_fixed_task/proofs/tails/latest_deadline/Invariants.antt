@@ -1,11 +1,12 @@
 -- The greatest deadline so far.
 use Rattle.std.proofs.Common.{ℕ, ◌<◌, ◌≤◌}
+use Rattle.drt_model.specs.Limits.{most_time}
 use Rattle.drt_model.specs.Walk.{deadline}
 use Rattle.drt_fixed_task.proofs.tails.latest_deadline.Given as goal
 
 abbrev pub invariant-vertices : goal.invariant-vertices
 invariant-vertices l = record {
   some : 1 ≤ l.latest;
-  most : l.latest ≤ 1000000;
+  most : l.latest ≤ most_time;
   bounds : (u : ℕ) → u < l.v → deadline l.graph u ≤ l.latest;
 }

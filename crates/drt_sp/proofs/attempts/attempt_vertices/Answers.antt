@@ -1,5 +1,6 @@
 -- One more attempt.
 use Rattle.std.proofs.Common.{◌<◌, ◌≤◌, ◌+◌, List, Option, sym, ap, subst, arith}
+use Rattle.drt_model.specs.Limits.{most_time}
 use Rattle.drt_model.specs.Digraph.{vertex_count}
 use Rattle.drt_model.specs.declared.tasks.Vertex.{Vertex}
 use Rattle.drt_sp.specs.Attempts.{IsAttempt}
@@ -48,8 +49,8 @@ loop-vertex-preserved c =
             vertex = l;
             wcet_is = ap (λ (v : Vertex). v.wcet) c.vertex-subject.ensures;
             deadline_is = ap (λ (v : Vertex). v.deadline) c.vertex-subject.ensures;
-            wcet_small = subst (λ (v : Vertex). v.wcet ≤ 1000000) (sym c.vertex-subject.ensures) (let t = sound.wcet n l in omega arith);
-            deadline_small = subst (λ (v : Vertex). v.deadline ≤ 1000000) (sym c.vertex-subject.ensures) (let t = sound.deadline n l in omega arith);
+            wcet_small = subst (λ (v : Vertex). v.wcet ≤ most_time) (sym c.vertex-subject.ensures) (let t = sound.wcet n l in omega arith);
+            deadline_small = subst (λ (v : Vertex). v.deadline ≤ most_time) (sym c.vertex-subject.ensures) (let t = sound.deadline n l in omega arith);
             few_roots = c.requires.few;
             spent = is;
           } in
