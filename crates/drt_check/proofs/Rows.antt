@@ -3,6 +3,7 @@ use Rattle.std.proofs.Common.{◌≡◌, ℕ, ◌<◌, ◌≤◌, ◌^◌, Bool,
 use Rattle.std.specs.Prelude.{◌↔◌, IsTrue, nat_le, nat_lt, nat_eq}
 use Rattle.std.proofs.lemmas.Bool.Decides.{nat_tests}
 use Rattle.std.proofs.lemmas.List.{length-map}
+use Rattle.drt_graph.specs.Horizon.{most_horizon}
 use Rattle.drt_model.specs.Digraph.{Digraph, digraph_of}
 use Rattle.drt_model.specs.Utilisation.{IsScale, rate}
 use Rattle.drt_model.specs.declared.tasks.Task.{Task}
@@ -85,9 +86,9 @@ pub near_fits : (graphs : List Digraph) (ratios : List RatioClaim) (bound : ℕ)
 near_fits graphs ratios bound is near = at_horizon graphs ratios bound is (λ n. n ≤ 2 ^ 40) near
 
 pub decides_near : (graphs : List Digraph) (ratios : List RatioClaim) (bound : ℕ) → IsHorizon graphs ratios bound
-    → IsTrue (nat_le bound 1099511627776) ↔ HaveNearHorizon graphs ratios
+    → IsTrue (nat_le bound most_horizon) ↔ HaveNearHorizon graphs ratios
 decides_near graphs ratios bound is =
-    decides_at graphs ratios bound is (λ n. n ≤ 2 ^ 40) (nat_le bound 1099511627776)
+    decides_at graphs ratios bound is (λ n. n ≤ 2 ^ 40) (nat_le bound most_horizon)
     (λ t. grind (arith, nat_tests), λ l. grind (arith, nat_tests))
 
 -- The utilisation at one scale is that at each.

@@ -1,5 +1,6 @@
 -- What is found of a statement, rule by rule.
 use Rattle.std.specs.Prelude.{◌≡◌, ℕ, ◌<◌, ◌≤◌, ◌^◌, List, Option, Some, None, length}
+use Rattle.drt_graph.specs.Horizon.{most_horizon}
 use Rattle.drt_model.specs.Digraph.{Digraph}
 use Rattle.drt_claims.specs.Claims.{IsFine, HaveUtilisationBelowOne, IsHorizon}
 use Rattle.drt_claims.specs.Rules.{Applies, Keeps, number_of}
@@ -45,4 +46,4 @@ pub record HaveHorizon (graphs : List Digraph) (claims : List RatioClaim) : Type
 
 -- The horizon is at most 2^40.
 abbrev pub HaveNearHorizon : List Digraph → List RatioClaim → Type 0
-HaveNearHorizon graphs claims = (bound : ℕ) × IsHorizon graphs claims bound × (bound ≤ 2 ^ 40)
+HaveNearHorizon graphs claims = (bound : ℕ) × IsHorizon graphs claims bound × (bound ≤ most_horizon)

@@ -3,7 +3,7 @@ ghost use Rattle.std.specs.Prelude.{◌≡◌, ℕ, ◌+◌, ◌≤◌, ◌↔�
 ghost use Rattle.drt_model.specs.Legal.{IsLegal};
 ghost use Rattle.drt_model.specs.Misses.{IsLeastMiss};
 ghost use Rattle.drt_model.specs.Schedulable.{deadline_of, jobs_of};
-ghost use Rattle.drt_claims.specs.Ranges.{AreInRangeReleases, IsInRangeRelease};
+ghost use Rattle.drt_claims.specs.Ranges.{AreInRangeReleases, IsInRangeRelease, most_ticks};
 ghost use Rattle.drt_check.specs.Named.{IsReleasePlace, NamesJob};
 
 use drt_model::{Memory, Miss, Policy, Release, Task, TaskSet};
@@ -59,7 +59,7 @@ fn is_named(tasks: &[Task], releases: &[Release], miss: Miss) -> bool
 
 // When the job of the release is due.
 fn due(tasks: &[Task], release: &Release) -> u64
-    requires { release.now.time ≤ 1000000000000000000 }
+    requires { release.now.time ≤ most_ticks }
     ensures { result ≡ release.now.time + deadline_of tasks.now release.now }
 {
     release.time + relative_deadline(tasks, release) as u64

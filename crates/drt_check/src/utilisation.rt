@@ -1,6 +1,6 @@
 //! What claimed ratios come to: whether their utilisation is the claimed one, and the horizon that they give.
 ghost use Rattle.std.specs.Prelude.{◌≡◌, ◌≤◌, ◌^◌, ◌↔◌, All, IsTrue, length};
-ghost use Rattle.drt_model.specs.Utilisation.{IsScale};
+ghost use Rattle.drt_model.specs.Utilisation.{IsScale, most_scale};
 ghost use Rattle.drt_claims.specs.Claims.{HaveUtilisationBelowOne, HaveUtilisationOne, IsFine, IsHorizon, fractions};
 ghost use Rattle.drt_claims.specs.Ranges.{IsInRangeRatio};
 ghost use Rattle.drt_check.specs.Deciding.{HaveHorizon, HaveNearHorizon};
@@ -26,7 +26,7 @@ fn fine_scale(ratios: &[RatioClaim]) -> u64
     requires in_range { All IsInRangeRatio ratios.now }
     requires fine { IsFine ratios.now }
     ensures scale { IsScale (fractions ratios.now) result }
-    ensures most { result ≤ 2 ^ 60 }
+    ensures most { result ≤ most_scale }
 {
     match scale::<Claimed>(ratios) {
         Some(common) => common,

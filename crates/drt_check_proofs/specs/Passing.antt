@@ -1,6 +1,7 @@
 -- Where the items that pass stand: their times, and their nodes at a place.
 use Rattle.std.specs.Prelude.{ℕ, min, nat_lt, if◌then◌else◌, Option, None, Some, List, [], ◌∷◌, ◌++◌, map, slice_get}
 use Rattle.std.specs.List.{flat_map}
+use Rattle.drt_model.specs.Limits.{most_number}
 use Rattle.drt_model.specs.declared.tasks.Task.{Task}
 use Rattle.drt_claims.specs.Trees.{higher_count, root}
 use Rattle.drt_claims.specs.declared.evidence.Item.{Item}
@@ -18,7 +19,7 @@ passing_times (Split place ∷ items) = passing_times items
 
 -- The question for the value of a node at a time. A time past 32 bits, which passes for no vertex, stands for the greatest that has 32.
 abbrev pub asks : ℕ → ℕ → Query
-asks n t = record { node = n; time = min t 4294967295 }
+asks n t = record { node = n; time = min t most_number }
 
 -- The question of an item at a place: one that passes asks for the topmost node.
 abbrev pub asks_at : Item → List ℕ → List Query

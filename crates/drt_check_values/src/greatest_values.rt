@@ -1,5 +1,6 @@
 //! Values of places, with the greatest ones of runs of places at hand.
 ghost use Rattle.std.specs.Prelude.{◌≡◌, ℕ, ◌+◌, ◌*◌, ◌%◌, ◌^◌, ◌<◌, ◌≤◌, IfOk, length, replicate, slice_index_or, slice_range, slice_set};
+ghost use Rattle.drt_model.specs.Limits.{most_number};
 ghost use Rattle.drt_check_values.specs.Greatest.{AreGreatestJoined, IsJoinedBut, greatest};
 
 use drt_model::Memory;
@@ -31,7 +32,7 @@ impl Model for GreatestValues {
 impl GreatestValues {
     /// The value 0 at each of `count` places.
     pub(crate) fn zeros(alloc: Global, count: usize) -> Result<GreatestValues, Memory>
-        requires { count ≤ 4294967295 }
+        requires { count ≤ most_number }
         ensures { IfOk result (λ values. values ≡ replicate count 0) }
     {
         let nodes = vec![in alloc; 0u64; 2 * count]?;

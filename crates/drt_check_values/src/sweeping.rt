@@ -1,5 +1,6 @@
 //! The sweep over the times of queries, in order.
 ghost use Rattle.std.specs.Prelude.{◌≡◌, ◌+◌, ◌<◌, ◌≤◌, ◌↔◌, All, IfOk, IsTrue, length, map, slice_index_or, slice_range};
+ghost use Rattle.drt_model.specs.Limits.{most_number};
 ghost use Rattle.drt_check_values.specs.Greatest.{greatest};
 ghost use Rattle.drt_check_values.specs.Sweeps.{AreReady, HasRunOfPlaces, IsInOrder, IsTaken, answer, heights, no_rise, time_of};
 ghost use Rattle.drt_check_values.specs.Values.{AreLeft, AreWithin};
@@ -23,7 +24,7 @@ pub(crate) fn sweep(
     count: usize,
     rooms: &mut [u32],
 ) -> Result<bool, Memory>
-    requires count { count ≤ 4294967295 }
+    requires count { count ≤ most_number }
     requires order { IsInOrder queries.now order.now }
     requires runs { All (HasRunOfPlaces places.now.firsts.items places.now.sizes.items count) queries.now }
     requires rises { AreReady count rises.now }

@@ -3,7 +3,7 @@ use Rattle.std.specs.Prelude.{◌≡◌, ℕ, ◌≤◌, ◌<◌, ◌^◌, ℤ, 
 use Rattle.std.specs.Int.{IsGcd}
 use Rattle.drt_model.specs.declared.tasks.Task.{Task}
 use Rattle.drt_model.specs.Digraph.{Digraph, digraph_of}
-use Rattle.drt_model.specs.Utilisation.{Fraction, IsScale, rate}
+use Rattle.drt_model.specs.Utilisation.{Fraction, IsScale, rate, most_scale}
 use Rattle.drt_graph.specs.Horizon.{horizon}
 use Rattle.drt_graph.specs.RatioRules.{ArePotentialsCounted, FitPotentials, IsClosedCycle, IsTight}
 use Rattle.drt_claims.specs.declared.evidence.RatioClaim.{RatioClaim}
@@ -58,7 +58,7 @@ HaveTightCycles graphs claims = Each (λ g c. IsTight g c.num c.den c.cycle) gra
 
 -- The scale of the claimed ratios is at most 2^60.
 abbrev pub IsFine : List RatioClaim → Type 0
-IsFine claims = (scale : ℕ) × IsScale (fractions claims) scale × (scale ≤ 2 ^ 60)
+IsFine claims = (scale : ℕ) × IsScale (fractions claims) scale × (scale ≤ most_scale)
 
 -- The utilisation that is claimed is below one.
 abbrev pub HaveUtilisationBelowOne : List RatioClaim → Type 0

@@ -1,5 +1,8 @@
 -- The ranges of the numbers in a dossier.
 use Rattle.std.specs.Prelude.{ℕ, ◌≤◌, ℤ, pos, negsuc, ◌≤ℤ◌, List, All, length}
+use Rattle.drt_model.specs.Limits.{most_number}
+use Rattle.drt_graph.specs.Fits.{most_height}
+use Rattle.drt_graph.specs.RatioRules.{most_term}
 use Rattle.drt_model.specs.declared.jobs.Release.{Release}
 use Rattle.drt_model.specs.declared.jobs.Miss.{Miss}
 use Rattle.drt_claims.specs.declared.evidence.Evidence.{Evidence}
@@ -21,11 +24,15 @@ use Rattle.drt_states.specs.declared.claims.TailClaim.{TailClaim}
 
 -- A number of a vertex, a task, a job or a place, or a count, is at most 4,294,967,295.
 abbrev pub IsNumber : ℕ → Type 0
-IsNumber n = n ≤ 4294967295
+IsNumber n = n ≤ most_number
+
+-- The greatest time of a dossier, in ticks: 10^18.
+abbrev pub most_ticks : ℕ
+most_ticks = 1000000000000000000
 
 -- An offset, a time, a need or a deadline is at most 10^18 ticks.
 abbrev pub IsTick : ℕ → Type 0
-IsTick t = t ≤ 1000000000000000000
+IsTick t = t ≤ most_ticks
 
 -- A list is counted by such a number.
 abbrev pub IsCounted : {A : Type 0} → List A → Type 0
@@ -33,14 +40,14 @@ IsCounted xs = IsNumber (length xs)
 
 -- A potential is -10^16 to 10^16.
 abbrev pub IsInRangePotential : ℤ → Type 0
-IsInRangePotential h = (negsuc 9999999999999999 ≤ℤ h) × (h ≤ℤ pos 10000000000000000)
+IsInRangePotential h = (negsuc 9999999999999999 ≤ℤ h) × (h ≤ℤ pos most_height)
 
 -- A ratio has a numerator of at most 10^9 and a denominator of 1 to 10^9, its cycle has numbers of vertices, and its potentials
 -- are in range.
 pub record IsInRangeRatio (c : RatioClaim) : Type 0 where
-  pub num : c.num ≤ 1000000000
+  pub num : c.num ≤ most_term
   pub some : 1 ≤ c.den
-  pub den : c.den ≤ 1000000000
+  pub den : c.den ≤ most_term
   pub cycle : All IsNumber c.cycle
   pub cycle_counted : IsCounted c.cycle
   pub potentials : All IsInRangePotential c.potentials

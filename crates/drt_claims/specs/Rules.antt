@@ -1,5 +1,6 @@
 -- The rules of the checker, each said once. A rule is a sentence over lists and numbers, and speaks of no search.
 use Rattle.std.specs.Prelude.{◌≡◌, ℕ, ◌≤◌, ◌<◌, ◌^◌, All}
+use Rattle.drt_graph.specs.Horizon.{most_horizon}
 use Rattle.drt_model.specs.Constrained.{AreConstrained}
 use Rattle.drt_model.specs.Digraph.{Digraph}
 use Rattle.drt_model.specs.Legal.{IsLegal}
@@ -117,7 +118,7 @@ Keeps ClosedCycles s = HaveClosedCycles (graphs_of s.set.tasks) (ratios_of s.evi
 Keeps TightCycles s = HaveTightCycles (graphs_of s.set.tasks) (ratios_of s.evidence)
 Keeps FineScale s = IsFine (ratios_of s.evidence)
 Keeps ClaimedUtilisation s = HasClaimedUtilisation s.evidence
-Keeps NearHorizon s = AtHorizon s (λ bound. bound ≤ 2 ^ 40)
+Keeps NearHorizon s = AtHorizon s (λ bound. bound ≤ most_horizon)
 Keeps OrderedFronts s = AtHorizon s (λ bound. Each (IsOrdered bound) (graphs_of s.set.tasks) (fronts_of s.evidence))
 Keeps CoveredOpenings s = AtHorizon s (λ bound. Each (HasOpenings bound) (graphs_of s.set.tasks) (fronts_of s.evidence))
 Keeps CoveredExtensions s = AtHorizon s (λ bound. Each (IsClosedFront bound) (graphs_of s.set.tasks) (fronts_of s.evidence))

@@ -4,7 +4,7 @@ use Rattle.std.specs.Int.{IsGcd}
 use Rattle.drt_model.specs.Contents.{Contents}
 use Rattle.drt_model.specs.declared.tasks.Task.{Task}
 use Rattle.drt_model.specs.Digraph.{digraph_of}
-use Rattle.drt_model.specs.Utilisation.{Fraction, AreRatios, IsScale, rate}
+use Rattle.drt_model.specs.Utilisation.{Fraction, AreRatios, IsScale, rate, most_scale}
 use Rattle.drt_file.specs.trusted.Canonical.{written}
 use Rattle.drt_outcome.specs.declared.fault.Fault.{Fault}
 use Rattle.drt_outcome.specs.declared.fault.Fault.TheVariants as faults
@@ -37,7 +37,7 @@ pub record IsUtilisationText (set : Contents) (text : List ℕ) : Type 0 where
   pub are : AreRatios (map digraph_of set.tasks) ratios
   pub scale : ℕ
   pub is_scale : IsScale ratios scale
-  pub fine : scale ≤ 2 ^ 60
+  pub fine : scale ≤ most_scale
   pub total : Fraction
   pub lowest : IsGcd total.num total.den 1
   pub value : total.num * scale ≡ rate scale ratios * total.den
@@ -49,7 +49,7 @@ pub record IsTooFineSet (set : Contents) : Type 0 where
   pub are : AreRatios (map digraph_of set.tasks) ratios
   pub scale : ℕ
   pub is_scale : IsScale ratios scale
-  pub beyond : 2 ^ 60 < scale
+  pub beyond : most_scale < scale
 
 -- `util`: the bytes are an accepted file, and the text has the ratio of each task and the utilisation of the set.
 pub record Utilises (bytes : List ℕ) (made : Report) : Type 0 where

@@ -2,11 +2,8 @@
 use Rattle.std.specs.Prelude.{ℕ, ◌+◌, ◌*◌, ◌≤◌, Bool, true, ◌==◌, nat_le, ◌&&◌, replicate}
 use Rattle.drt_model.specs.Limits.{most_time}
 use Rattle.drt_label.specs.Algebra.{Algebra}
+use Rattle.drt_graph.specs.Horizon.{most_horizon}
 use Rattle.drt_graph.specs.declared.front.FrontEntry.{FrontEntry}
-
--- The greatest bound of a table of demand labels, 2^40 ticks.
-abbrev pub greatest_bound : ℕ
-greatest_bound = 1099511627776
 
 -- The label of the walk of one vertex.
 abbrev pub opening_entry : ℕ → ℕ → ℕ → FrontEntry
@@ -27,19 +24,19 @@ entry_dominates x y = (x.vertex == y.vertex) && (nat_le x.offset y.offset && nat
 -- Demand labels: each is of every bound up to the greatest one, and extendable where its offset is at most that.
 abbrev pub demand_algebra : Algebra FrontEntry
 demand_algebra = record {
-  takes_bound = λ bound. nat_le bound greatest_bound;
+  takes_bound = λ bound. nat_le bound most_horizon;
   opening = opening_entry;
   extend = extend;
   vertex = λ x. x.vertex;
   offset = λ x. x.offset;
   in_range = in_range;
   dominates = entry_dominates;
-  is_of = λ x bound. nat_le bound greatest_bound;
-  is_extendable = λ x. nat_le x.offset greatest_bound;
+  is_of = λ x bound. nat_le bound most_horizon;
+  is_extendable = λ x. nat_le x.offset most_horizon;
   is_chain = true;
   samples = λ x. replicate 16 0;
 }
 
 -- What the type of demand labels keeps: the offset and the work are within these limits.
 abbrev pub IsDemandWithinLimits : FrontEntry → Type 0
-IsDemandWithinLimits x = (x.offset ≤ greatest_bound + most_time) × (x.work ≤ most_time * (x.offset + 1))
+IsDemandWithinLimits x = (x.offset ≤ most_horizon + most_time) × (x.work ≤ most_time * (x.offset + 1))

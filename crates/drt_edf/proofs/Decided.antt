@@ -1,6 +1,7 @@
 -- What the fronts of all tasks decide.
 use Rattle.std.proofs.Common.{ℕ, ◌≤◌, List, [], ◌∷◌, All, length, ap, arith}
 use Rattle.std.specs.Prelude.{Ok}
+use Rattle.drt_graph.specs.Horizon.{most_horizon}
 use Rattle.drt_model.specs.declared.tasks.Task.{Task}
 use Rattle.drt_model.specs.Digraph.{Digraph, IsSoundGraph}
 use Rattle.drt_graph.specs.Graphs.{AreGraphs}
@@ -23,7 +24,7 @@ use Rattle.drt_edf.proofs.RatioClaims.{all_cons, head_of, tail_of, claims_count,
 use Rattle.drt_edf.proofs.Suffixes.{AreListed, are_listed}
 use Rattle.drt_edf.proofs.Yes.{front_in_range}
 
-fronts_in_range : (graphs : List Digraph) (bound : ℕ) (fronts : List (List FrontEntry)) → All IsSoundGraph graphs → bound ≤ 1099511627776 → AreLabelFronts bound graphs fronts
+fronts_in_range : (graphs : List Digraph) (bound : ℕ) (fronts : List (List FrontEntry)) → All IsSoundGraph graphs → bound ≤ most_horizon → AreLabelFronts bound graphs fronts
     → All IsCounted fronts → All IsInRangeFront fronts
 fronts_in_range [] bound [] sound near are counted = λ k d l. absurd (omega arith)
 fronts_in_range [] bound (f ∷ fronts) sound near are counted = absurd (let h = ap length are in omega (arith, h))
@@ -35,14 +36,14 @@ fronts_in_range (g ∷ graphs) bound (f ∷ fronts) sound near are counted =
 
 -- The numbers of a yes are in range.
 pub yes_in_range : (graphs : List Digraph) (proofs : List RatioProof) (bound : ℕ) (fronts : List (List FrontEntry)) → AreGraphs graphs → AreGiven graphs proofs
-    → bound ≤ 1099511627776 → AreLabelFronts bound graphs fronts → All IsCounted fronts → IsEvidenceInRange (EdfYes (claims_of proofs) fronts)
+    → bound ≤ most_horizon → AreLabelFronts bound graphs fronts → All IsCounted fronts → IsEvidenceInRange (EdfYes (claims_of proofs) fronts)
 yes_in_range graphs proofs bound fronts are given near label counted =
     let n = claims_count graphs proofs given in
     let m = fronts_count bound graphs fronts label in
     ((claims_in_range graphs proofs are.sound given, omega (arith, n, are.few)), (fronts_in_range graphs bound fronts are.sound near label counted, omega (arith, m, are.few)))
 
 -- The horizon of a plan is at most 2^40.
-pub plan_near : (graphs : List Digraph) (proofs : List RatioProof) (bound : ℕ) → IsHorizonPlan graphs proofs (Ok (Under bound)) → bound ≤ 1099511627776
+pub plan_near : (graphs : List Digraph) (proofs : List RatioProof) (bound : ℕ) → IsHorizonPlan graphs proofs (Ok (Under bound)) → bound ≤ most_horizon
 plan_near graphs proofs bound plan = omega (arith, plan.2.2, plan.2.3)
 
 -- A spent search is one of the set.

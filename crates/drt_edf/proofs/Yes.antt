@@ -3,6 +3,7 @@ use Rattle.std.proofs.Common.{◌≡◌, ℕ, suc, ◌+◌, ◌*◌, ◌<◌, �
 use Rattle.std.specs.Prelude.{Ok, ◌^◌}
 use Rattle.std.proofs.lemmas.Bool.{cases_lt}
 use Rattle.std.proofs.lemmas.List.{get_or_default}
+use Rattle.drt_graph.specs.Horizon.{most_horizon}
 use Rattle.drt_model.specs.declared.tasks.Task.{Task}
 use Rattle.drt_model.specs.declared.jobs.Policy.TheVariants.{Edf}
 use Rattle.drt_model.specs.Constrained.{AreConstrained}
@@ -164,10 +165,10 @@ is_yes holds decide version tasks is constrained graphs proofs given bound plan 
     }
 
 -- In plain numbers: the work of a walk that is short in time.
-short_work : (count spans work : ℕ) → spans ≤ 1099511627776 → count ≤ spans → work ≤ suc count * most_time → work ≤ 2000000000000000000
+short_work : (count spans work : ℕ) → spans ≤ most_horizon → count ≤ spans → work ≤ suc count * most_time → work ≤ 2000000000000000000
 short_work count spans work l m n = omega arith
 
-entry_in_range : (g : Digraph) (bound : ℕ) (e : FrontEntry) → IsSoundGraph g → bound ≤ 1099511627776 → IsWalkEntry g bound e → IsInRangeEntry e
+entry_in_range : (g : Digraph) (bound : ℕ) (e : FrontEntry) → IsSoundGraph g → bound ≤ most_horizon → IsWalkEntry g bound e → IsInRangeEntry e
 entry_in_range g bound e sound near walk =
     let in_graph : e.vertex < vertex_count g = rw walk.vertex (path_within g sound walk.first walk.others walk.is_vertex walk.path) in
     let sums = path_sums g sound walk.first walk.others walk.path in
@@ -181,5 +182,5 @@ entry_in_range g bound e sound near walk =
     }
 
 -- The entries of a front are in range.
-pub front_in_range : (g : Digraph) (bound : ℕ) (f : List FrontEntry) → IsSoundGraph g → bound ≤ 1099511627776 → IsLabelFront g bound f → All IsInRangeEntry f
+pub front_in_range : (g : Digraph) (bound : ℕ) (f : List FrontEntry) → IsSoundGraph g → bound ≤ most_horizon → IsLabelFront g bound f → All IsInRangeEntry f
 front_in_range g bound f sound near is k d l = entry_in_range g bound (get_or f k d) sound near (entry_walk bound g f is k d l)

@@ -1,5 +1,6 @@
 -- What each answer of the EDF analysis says.
 use Rattle.std.specs.Prelude.{◌≡◌, ℕ, ◌<◌, ◌≤◌, ◌^◌, ◌⊎◌, List, length, Option}
+use Rattle.drt_graph.specs.Horizon.{most_horizon}
 use Rattle.drt_model.specs.declared.tasks.Task.{Task}
 use Rattle.drt_model.specs.declared.jobs.Policy.TheVariants.{Edf}
 use Rattle.drt_model.specs.declared.jobs.Release.{Release}
@@ -77,7 +78,7 @@ IsEdfVerdict tasks Undecided = ⊥
 
 -- The utilisation isn't one: it is below one with a horizon of at most 2^40, or above one.
 abbrev pub IsOther : List Task → Type 0
-IsOther tasks = ((bound : ℕ) × HasHorizon tasks bound × (bound ≤ 2 ^ 40)) ⊎ IsAboveOne tasks
+IsOther tasks = ((bound : ℕ) × HasHorizon tasks bound × (bound ≤ most_horizon)) ⊎ IsAboveOne tasks
 
 -- How the utilisation stands to one where a set has this evidence.
 abbrev pub IsPlanned : List Task → Evidence → Type 0

@@ -2,9 +2,9 @@
 use Rattle.std.specs.Prelude.{◌≡◌, ℕ, ◌≤◌, ◌<◌, ◌^◌, ℤ, List, [], ◌∷◌}
 use Rattle.drt_model.specs.declared.tasks.Task.{Task}
 use Rattle.drt_model.specs.Digraph.{Digraph}
-use Rattle.drt_model.specs.Utilisation.{Fraction, rate}
+use Rattle.drt_model.specs.Utilisation.{Fraction, rate, most_scale}
 use Rattle.drt_graph.specs.Potential.{AreCanonical}
-use Rattle.drt_graph.specs.Horizon.{horizon}
+use Rattle.drt_graph.specs.Horizon.{horizon, most_horizon}
 use Rattle.drt_claims.specs.Claims.{graphs_of}
 use Rattle.drt_claims.specs.Rates.{Rates}
 
@@ -17,16 +17,16 @@ ArePotentials (g ∷ graphs) (r ∷ ratios) (hs ∷ potentials) = AreCanonical g
 
 -- The scale exceeds 2^60.
 abbrev pub AreTooFine : List Task → Type 0
-AreTooFine tasks = (r : Rates tasks) × (2 ^ 60 < r.scale)
+AreTooFine tasks = (r : Rates tasks) × (most_scale < r.scale)
 
 -- The scale is at most 2^60, and the utilisation is above one.
 abbrev pub IsAboveOne : List Task → Type 0
-IsAboveOne tasks = (r : Rates tasks) × (r.scale ≤ 2 ^ 60) × (r.scale < rate r.scale r.ratios)
+IsAboveOne tasks = (r : Rates tasks) × (r.scale ≤ most_scale) × (r.scale < rate r.scale r.ratios)
 
 -- The scale is at most 2^60, the utilisation is below one, and this is the horizon.
 pub record HasHorizon (tasks : List Task) (bound : ℕ) : Type 0 where
   pub rates : Rates tasks
-  pub fine : rates.scale ≤ 2 ^ 60
+  pub fine : rates.scale ≤ most_scale
   pub below : rate rates.scale rates.ratios < rates.scale
   pub potentials : List (List ℤ)
   pub canonical : ArePotentials (graphs_of tasks) rates.ratios potentials
@@ -34,4 +34,4 @@ pub record HasHorizon (tasks : List Task) (bound : ℕ) : Type 0 where
 
 -- The utilisation is below one, and the horizon exceeds 2^40.
 abbrev pub IsTooFar : List Task → Type 0
-IsTooFar tasks = (bound : ℕ) × HasHorizon tasks bound × (2 ^ 40 < bound)
+IsTooFar tasks = (bound : ℕ) × HasHorizon tasks bound × (most_horizon < bound)

@@ -1,5 +1,6 @@
 -- Where a budget is spent, and how much is enough.
 use Rattle.std.specs.Prelude.{◌≡◌, ℕ, ◌≤◌, ◌<◌, ◌^◌, false, List, length, All, Some, slice_get}
+use Rattle.drt_graph.specs.Horizon.{most_horizon}
 use Rattle.drt_model.specs.declared.tasks.Task.{Task}
 use Rattle.drt_model.specs.Digraph.{Digraph}
 use Rattle.drt_model.specs.Utilisation.{IsScale}
@@ -22,7 +23,7 @@ pub use Rattle.drt_table.specs.Machine.{search_of}
 pub record IsSpentEdfTable (tasks : List Task) (budget task : ℕ) (log : List Entry) : Type 0 where
   pub bound : ℕ
   pub below : HasHorizon tasks bound
-  pub near : bound ≤ 2 ^ 40
+  pub near : bound ≤ most_horizon
   pub graph : Digraph
   pub is_graph : slice_get (graphs_of tasks) task ≡ Some graph
   pub run : IsRun demand_algebra (search_of graph bound budget) log

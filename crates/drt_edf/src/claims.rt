@@ -1,5 +1,6 @@
 //! Ratios with their evidence, as claims.
 ghost use Rattle.std.specs.Prelude.{◌≡◌, ◌≤◌, IfOk};
+ghost use Rattle.drt_graph.specs.RatioRules.{most_term};
 ghost use Rattle.drt_edf.specs.RatioClaims.{claim_of, claims_of};
 ghost use Rattle.drt_ratio.specs.SetRatios.{AreSmall};
 
@@ -10,8 +11,8 @@ use std::alloc::Global;
 
 // The claim of one ratio.
 fn claim_of(proof: RatioProof) -> RatioClaim
-    requires num { proof.ratio.num ≤ 1000000000 }
-    requires den { proof.ratio.den ≤ 1000000000 }
+    requires num { proof.ratio.num ≤ most_term }
+    requires den { proof.ratio.den ≤ most_term }
     ensures { result ≡ claim_of proof }
 {
     RatioClaim {

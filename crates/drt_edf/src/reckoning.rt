@@ -1,5 +1,6 @@
 //! In which order the tasks are looked at side by side. It is reckoned from their graphs, and decides no answer.
 ghost use Rattle.std.specs.Prelude.{◌≡◌, ◌≤◌, ◌<◌, IfOk, length};
+ghost use Rattle.drt_graph.specs.Horizon.{most_horizon};
 ghost use Rattle.drt_model.specs.Digraph.{vertex_count};
 
 use drt_ahead::shared_size;
@@ -20,7 +21,7 @@ pub(crate) fn reckon_all(
     budget: u64,
     last: u32,
 ) -> Result<Vec<u64>, Memory>
-    requires { bound ≤ 1099511627776 }
+    requires { bound ≤ most_horizon }
     ensures { IfOk result (λ steps. length steps.items ≡ length graphs.now) }
 {
     let mut steps = Vec::new(alloc);
@@ -53,7 +54,7 @@ pub(crate) fn busy_workers(steps: &[u64], workers: u32) -> u32
 // The steps that the search of a task is reckoned to take: each vertex comes as often as the bound has room for the least separation, and
 // is followed along each edge. A task with a wave table has none: all workers share its waves.
 fn reckon(graph: &Graph, bound: u64, budget: u64) -> u64
-    requires { bound ≤ 1099511627776 }
+    requires { bound ≤ most_horizon }
 {
     if has_wave_table(graph, bound, budget) {
         return 0;

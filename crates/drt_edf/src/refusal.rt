@@ -4,7 +4,7 @@ ghost use Rattle.drt_busy.specs.Choice.{AreDueBy, AreWalks, efforts};
 ghost use Rattle.drt_horizon.specs.Given.{AreGiven};
 ghost use Rattle.drt_horizon.specs.CycleTurns.{cycle_turns_of, turned};
 ghost use Rattle.drt_claims.specs.Claims.{graphs_of};
-ghost use Rattle.drt_claims.specs.Ranges.{IsEvidenceInRange};
+ghost use Rattle.drt_claims.specs.Ranges.{IsEvidenceInRange, most_ticks};
 ghost use Rattle.drt_releases.specs.Walks.{walk_at};
 ghost use Rattle.drt_edf.specs.Answers.{IsEdfVerdict};
 
@@ -29,7 +29,7 @@ pub(crate) fn refusal(
     requires walks { AreWalks set.now.tasks (walk_at walks.now) }
     requires due { AreDueBy set.now.tasks (walk_at walks.now) t }
     requires excess { t < efforts set.now.tasks (walk_at walks.now) (length set.now.tasks) }
-    requires time { t ≤ 1000000000000000000 }
+    requires time { t ≤ most_ticks }
     ensures done { IfOk result (λ e. IsEdfVerdict set.now.tasks e) }
     ensures range { IfOk result (λ e. IsEvidenceInRange e) }
 {
@@ -66,7 +66,7 @@ pub(crate) fn overload_refusal(
 ) -> Result<Evidence, Memory>
     requires given { AreGiven (graphs_of set.now.tasks) proofs.now }
     requires excess { t < turned (cycle_turns_of (graphs_of set.now.tasks) proofs.now) t }
-    requires time { t ≤ 1000000000000000000 }
+    requires time { t ≤ most_ticks }
     ensures done { IfOk result (λ e. IsEdfVerdict set.now.tasks e) }
     ensures range { IfOk result (λ e. IsEvidenceInRange e) }
 {

@@ -1,5 +1,6 @@
 //! The searches of the tasks' walks.
 ghost use Rattle.std.specs.Prelude.{◌<◌, ◌≤◌, IfOk, length};
+ghost use Rattle.drt_graph.specs.Horizon.{most_horizon};
 ghost use Rattle.drt_ahead.specs.Found.{AreThere};
 ghost use Rattle.drt_edf.specs.Searches.{AreSearches, IsAheadOf, IsEndOf};
 
@@ -44,7 +45,7 @@ pub(crate) fn searches<G: Gate, R: Threads + Wait + Sync>(
     graphs: &Graphs,
     bound: u64,
 ) -> Result<Searched, Memory>
-    requires { bound ≤ 1099511627776 }
+    requires { bound ≤ most_horizon }
     ensures { IfOk result (AreSearches graphs.now bound crew.now.effort.budget) }
 {
     let budget = crew.effort.budget();
@@ -73,7 +74,7 @@ fn end_of<G: Gate, R: Threads + Wait + Sync>(
     found: &mut Vec<Option<FoundAhead>>,
 ) -> Result<Ended, Memory>
     requires task { task < length graphs.now }
-    requires bound { bound ≤ 1099511627776 }
+    requires bound { bound ≤ most_horizon }
     requires found { AreThere (IsAheadOf graphs.now bound crew.now.effort.budget) found.old.items }
     ensures end { IfOk result (IsEndOf graphs.now bound crew.now.effort.budget task) }
     ensures found { AreThere (IsAheadOf graphs.now bound crew.now.effort.budget) found.new.items }
@@ -93,7 +94,7 @@ fn search_ahead<G: Gate, R: Threads + Wait + Sync>(
     bound: u64,
     last: u32,
 ) -> Result<Vec<Option<FoundAhead>>, Memory>
-    requires { bound ≤ 1099511627776 }
+    requires { bound ≤ most_horizon }
     ensures { IfOk result (λ found. AreThere (IsAheadOf graphs.now bound crew.now.effort.budget) found.items) }
 {
     let (alloc, effort) = (crew.alloc, crew.effort);
@@ -105,7 +106,7 @@ fn search_ahead<G: Gate, R: Threads + Wait + Sync>(
     let order = largest_first(alloc, steps.as_slice())?;
     let busy = crew.with(Effort::new(workers, effort.budget()));
     let merge = |task: u32| -> Result<FoundAhead, Memory>
-        requires { (task < length graphs.now) × (bound ≤ 1099511627776) }
+        requires { (task < length graphs.now) × (bound ≤ most_horizon) }
         ensures { IfOk result (IsAheadOf graphs.entry.now bound effort.budget task) }
     {
         if task <= last {
@@ -125,7 +126,7 @@ fn merge_alone(
     effort: Effort,
 ) -> Result<FoundAhead, Memory>
     requires task { task < length graphs.now }
-    requires bound { bound ≤ 1099511627776 }
+    requires bound { bound ≤ most_horizon }
     ensures { IfOk result (IsAheadOf graphs.now bound effort.budget task) }
 {
     let graph = graphs.graph(task);

@@ -1,5 +1,6 @@
 //! Tasks whose walks are merged.
 ghost use Rattle.std.specs.Prelude.{◌≤◌, IfOk, IfSome};
+ghost use Rattle.drt_graph.specs.Horizon.{most_horizon};
 ghost use Rattle.drt_effort.specs.Efforts.{most_budget};
 ghost use Rattle.drt_model.specs.Digraph.{IsConstrainedGraph};
 ghost use Rattle.drt_claims.specs.Ranges.{IsCounted};
@@ -19,7 +20,7 @@ pub fn merged_front(
     budget: u64,
 ) -> Result<Option<Row<FrontEntry>>, Memory>
     requires constrained { IsConstrainedGraph graph.now }
-    requires bound { bound ≤ 1099511627776 }
+    requires bound { bound ≤ most_horizon }
     requires few { budget ≤ most_budget }
     ensures front { IfOk result (λ r. IfSome r (IsLabelFront graph.now bound)) }
     ensures counted { IfOk result (λ r. IfSome r IsCounted) }

@@ -1,5 +1,6 @@
 //! The search of a task's walks.
 ghost use Rattle.std.specs.Prelude.{◌≡◌, ◌≤◌, IfOk};
+ghost use Rattle.drt_graph.specs.Horizon.{most_horizon};
 ghost use Rattle.drt_model.specs.Digraph.{IsConstrainedGraph};
 ghost use Rattle.drt_fronts.specs.Ends.{IsEnded};
 ghost use Rattle.drt_table.specs.Drive.{StopsAt};
@@ -27,7 +28,7 @@ fn search(
     bound: u64,
     effort: Effort,
 ) -> Result<(Table<DemandLabel>, TableReply), Memory>
-    requires bound { bound ≤ 1099511627776 }
+    requires bound { bound ≤ most_horizon }
     ensures setting { IfOk result (λ end. setting_of end.0 ≡ search_of graph.now bound effort.budget) }
     ensures stops { IfOk result (λ end. StopsAt demand_algebra end.0 end.1) }
 {
@@ -53,7 +54,7 @@ pub fn search_task<G: Gate, R: Threads + Wait + Sync>(
     bound: u64,
 ) -> Result<Ended, Memory>
     requires constrained { IsConstrainedGraph graph.now }
-    requires bound { bound ≤ 1099511627776 }
+    requires bound { bound ≤ most_horizon }
     ensures { IfOk result (IsEnded graph.now bound crew.now.effort.budget) }
 {
     let budget = crew.effort.budget();
@@ -70,7 +71,7 @@ pub fn search_task<G: Gate, R: Threads + Wait + Sync>(
 /// The same search for a task that merging gives nothing of: by one worker, in a table whose steps the budget counts.
 pub fn drive_task(alloc: Global, graph: &Graph, bound: u64, effort: Effort) -> Result<Ended, Memory>
     requires constrained { IsConstrainedGraph graph.now }
-    requires bound { bound ≤ 1099511627776 }
+    requires bound { bound ≤ most_horizon }
     ensures { IfOk result (IsEnded graph.now bound effort.budget) }
 {
     over_every_interleaving::<DemandLabel>();

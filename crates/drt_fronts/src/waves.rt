@@ -1,5 +1,7 @@
 //! Tasks whose walks are worked in a wave table.
 ghost use Rattle.std.specs.Prelude.{◌≡◌, ◌+◌, ◌*◌, ◌≤◌, ◌↔◌, IfOk, IsTrue};
+ghost use Rattle.drt_wave.specs.Cells.{most_cells};
+ghost use Rattle.drt_graph.specs.Horizon.{most_horizon};
 ghost use Rattle.drt_graph.specs.Degrees.{most_out};
 ghost use Rattle.drt_model.specs.Digraph.{IsConstrainedGraph, vertex_count};
 ghost use Rattle.drt_claims.specs.Ranges.{IsCounted};
@@ -32,7 +34,7 @@ fn greatest_degree(graph: &Graph) -> u64
 /// Whether the walks of a task up to the bound, in ticks, are worked in a wave table, in place of a table whose steps are counted: there
 /// are at most 4,194,304 cells, and the budget is enough for any search of these walks.
 pub fn has_wave_table(graph: &Graph, bound: u64, budget: u64) -> bool
-    requires { bound ≤ 1099511627776 }
+    requires { bound ≤ most_horizon }
     ensures { IsTrue result ↔ HasWaveTable graph.now bound budget }
 {
     let cells = u64::from(graph.vertex_count()) * (bound + 1);
@@ -48,7 +50,7 @@ pub fn wave_front<G: Gate, R: Threads + Wait + Sync>(
     graph: &Graph,
     bound: u64,
 ) -> Result<Row<FrontEntry>, Memory>
-    requires small { vertex_count graph.now * (bound + 1) ≤ 4194304 }
+    requires small { vertex_count graph.now * (bound + 1) ≤ most_cells }
     requires constrained { IsConstrainedGraph graph.now }
     ensures front { IfOk result (IsLabelFront graph.now bound) }
     ensures counted { IfOk result IsCounted }

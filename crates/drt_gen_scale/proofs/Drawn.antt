@@ -17,7 +17,7 @@ use Rattle.drt_graph.proofs.Soundness.{sound_of}
 use Rattle.drt_gen.specs.Draws.{draw}
 use Rattle.drt_gen.specs.Generated.{drawn_edges, drawn_period, drawn_task, drawn_vertex, generated, next_on_ring, periods}
 use Rattle.drt_gen.proofs.Limits.{each_flat, each_of, edges_cases, period_within, task_limits}
-use Rattle.drt_gen_scale.specs.Scales.{AreAllSmall, most_scale}
+use Rattle.drt_gen_scale.specs.Scales.{AreAllSmall, most_drawn_scale}
 use Rattle.drt_gen_scale.proofs.Periods.{den_of}
 
 -- Each period divides 1,200.
@@ -77,14 +77,14 @@ task_size x k i =
     omega (arith, length-map-range_with_len vertex 0 12)
 
 -- Each denominator of a drawn task divides the greatest scale.
-task_dens : (x k i : ℕ) → i < 12 → (r : Fraction) → IsRatio (digraph_of (drawn_task x k i)) r → r.den ∣ most_scale
+task_dens : (x k i : ℕ) → i < 12 → (r : Fraction) → IsRatio (digraph_of (drawn_task x k i)) r → r.den ∣ most_drawn_scale
 task_dens x k i l r is =
     let t = drawn_task x k i in
     let sound = sound_of 1 t (task_limits x k i l) in
     den_of (digraph_of t) (drawn_period x k) (gaps_of t (drawn_period x k) sound (task_seps x k i)) sound (task_size x k i) (period_divides x k) r is
 
 -- And each of a list of tasks.
-all_dens : (tasks : List Task) (ratios : List Fraction) → All (λ t. (r : Fraction) → IsRatio (digraph_of t) r → r.den ∣ most_scale) tasks → AreRatios (map digraph_of tasks) ratios → EachDivides ratios most_scale
+all_dens : (tasks : List Task) (ratios : List Fraction) → All (λ t. (r : Fraction) → IsRatio (digraph_of t) r → r.den ∣ most_drawn_scale) tasks → AreRatios (map digraph_of tasks) ratios → EachDivides ratios most_drawn_scale
 all_dens [] [] each are = tt
 all_dens [] (r ∷ ratios) each are = absurd are
 all_dens (t ∷ tasks) [] each are = absurd are
@@ -94,6 +94,6 @@ pub scales_small : AreAllSmall
 unfolding generated
 scales_small number scale ratios are is =
     let task : ℕ → Task = λ i. drawn_task number (61 * i) i in
-    let Divides : Task → Type 0 = λ t. (r : Fraction) → IsRatio (digraph_of t) r → r.den ∣ most_scale in
+    let Divides : Task → Type 0 = λ t. (r : Fraction) → IsRatio (digraph_of t) r → r.den ∣ most_drawn_scale in
     let each : All Divides (generated number).tasks = each_of task Divides 12 (λ i l. task_dens number (61 * i) i l) in
-    le_of_dvd (omega arith) (is.least most_scale (all_dens (generated number).tasks ratios each are))
+    le_of_dvd (omega arith) (is.least most_drawn_scale (all_dens (generated number).tasks ratios each are))

@@ -10,7 +10,7 @@ use Rattle.drt_model.specs.Walk.{gap, IsEdge, IsPath, last_of, work, span}
 use Rattle.drt_model.specs.Utilisation.{Fraction, HasRatio, IsRatio}
 use Rattle.drt_graph.proofs.Paths.{span_none, span_cons}
 use Rattle.drt_ratio.proofs.Loops.{few_distinct, path_below}
-use Rattle.drt_gen_scale.specs.Scales.{most_scale}
+use Rattle.drt_gen_scale.specs.Scales.{most_drawn_scale}
 use Rattle.drt_gen_scale.proofs.SimpleCycles.{IsSimple, simple_of}
 
 -- Each number up to 24 divides the least common multiple of them.
@@ -53,7 +53,7 @@ module _ (g : Digraph) (p : ℕ) (seps : (u v : ℕ) → IsEdge g u v → (gap g
 
   -- So each denominator divides the multiple of 1 to 24, times that of the periods.
   module _ (sound : IsSoundGraph g) (few : vertex_count g ≤ 12) (period : p ∣ 1200) where
-    of_simple : (a b : ℕ) → IsGcd a b 1 → (cycle : List ℕ) → IsSimple g a b cycle → b ∣ most_scale
+    of_simple : (a b : ℕ) → IsGcd a b 1 → (cycle : List ℕ) → IsSimple g a b cycle → b ∣ most_drawn_scale
     of_simple a b lowest [] simple = absurd simple.is
     of_simple a b lowest (v ∷ vs) simple =
         let (k, e, least, most) = periods_of (last_of v vs) (v ∷ vs) simple.is in
@@ -62,11 +62,11 @@ module _ (g : Digraph) (p : ℕ) (seps : (u v : ℕ) → IsEdge g u v → (gap g
         let time : b ∣ k * p = subst (λ s. b ∣ s) e (den_divides a b (work g (v ∷ vs)) (span g (last_of v vs) (v ∷ vs)) lowest simple.has) in
         dvd_trans b time (mul-dvd-mul k p divides period)
 
-    pub den_of : (r : Fraction) → IsRatio g r → r.den ∣ most_scale
+    pub den_of : (r : Fraction) → IsRatio g r → r.den ∣ most_drawn_scale
     den_of r is = go is.cycle is.has
       where
-        go : (cycle : List ℕ) → HasRatio g r.num r.den cycle → r.den ∣ most_scale
-        go [] has = subst (λ d. d ∣ most_scale) (sym has.1) (one-dvd most_scale)
+        go : (cycle : List ℕ) → HasRatio g r.num r.den cycle → r.den ∣ most_drawn_scale
+        go [] has = subst (λ d. d ∣ most_drawn_scale) (sym has.1) (one-dvd most_drawn_scale)
         go (v ∷ vs) has =
             let (cycle, simple) = simple_of g r.num r.den is.least v vs has.0 has.1 in
             of_simple r.num r.den is.lowest cycle simple

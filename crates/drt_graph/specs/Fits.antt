@@ -12,6 +12,10 @@ Allows g a b hs u k = (pos (b * wcet g (edge_of g u k).to) -ℤ pos (a * (edge_o
 abbrev pub AllowAll : Digraph → ℕ → ℕ → List ℤ → Type 0
 AllowAll g a b hs = (u k : ℕ) → u < vertex_count g → k < out_degree g u → Allows g a b hs u k
 
+-- How far from 0 a potential is at most.
+abbrev pub most_height : ℕ
+most_height = 10000000000000000
+
 -- The potential of each vertex is within 10^16 of 0.
 abbrev pub AreNear : Digraph → List ℤ → Type 0
-AreNear g hs = (v : ℕ) → v < vertex_count g → (negsuc 9999999999999999 ≤ℤ potential_of hs v) × (potential_of hs v ≤ℤ pos 10000000000000000)
+AreNear g hs = (v : ℕ) → v < vertex_count g → (negsuc 9999999999999999 ≤ℤ potential_of hs v) × (potential_of hs v ≤ℤ pos most_height)

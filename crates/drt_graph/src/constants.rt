@@ -1,11 +1,12 @@
 //! The constant of a task: how far the work of its walks may be above its ratio's share.
 ghost use Rattle.std.specs.Prelude.{◌≡◌, ℕ, ◌*◌, ◌<◌, ◌≤◌, ℤ, pos, negsuc, ◌-ℤ◌, ◌≤ℤ◌, length};
 ghost use Rattle.std.specs.Int.{int_max};
+ghost use Rattle.drt_graph.specs.RatioRules.{most_term};
 ghost use Rattle.drt_model.specs.Digraph.{vertex_count};
 ghost use Rattle.drt_model.specs.Walk.{wcet, deadline};
 ghost use Rattle.drt_graph.specs.Potential.{potential_of};
 ghost use Rattle.drt_graph.specs.Horizon.{most_over, constant_of, above_zero};
-ghost use Rattle.drt_graph.specs.Fits.{AreNear};
+ghost use Rattle.drt_graph.specs.Fits.{AreNear, most_height};
 
 use crate::graph::Graph;
 use crate::potentials::potential_at;
@@ -19,7 +20,7 @@ fn larger(a: i64, b: i64) -> i64
 
 // The share of one vertex as the first of a walk.
 fn opening(graph: &Graph, den: u64, potentials: &[i64], v: u32) -> i64
-    requires den { den ≤ 1000000000 }
+    requires den { den ≤ most_term }
     requires near { AreNear graph.now potentials.now }
     requires vertex { v < vertex_count graph.now }
     ensures value { result ≡ pos (den * wcet graph.now v) -ℤ potential_of potentials.now v }
@@ -33,7 +34,7 @@ fn opening(graph: &Graph, den: u64, potentials: &[i64], v: u32) -> i64
 
 // The greatest share of a vertex as the first of a walk.
 fn greatest_opening(graph: &Graph, den: u64, potentials: &[i64]) -> i64
-    requires den { den ≤ 1000000000 }
+    requires den { den ≤ most_term }
     requires near { AreNear graph.now potentials.now }
     ensures value { result ≡ most_over graph.now (λ u. pos (den * wcet graph.now u) -ℤ potential_of potentials.now u) }
     ensures low { negsuc 9999999999999999 ≤ℤ result }
@@ -49,12 +50,12 @@ fn greatest_opening(graph: &Graph, den: u64, potentials: &[i64]) -> i64
 
 // The share of one vertex as the last of a walk.
 fn closing(graph: &Graph, num: u64, potentials: &[i64], v: u32) -> i64
-    requires num { num ≤ 1000000000 }
+    requires num { num ≤ most_term }
     requires near { AreNear graph.now potentials.now }
     requires vertex { v < vertex_count graph.now }
     ensures value { result ≡ potential_of potentials.now v -ℤ pos (num * deadline graph.now v) }
     ensures low { negsuc 10999999999999999 ≤ℤ result }
-    ensures high { result ≤ℤ pos 10000000000000000 }
+    ensures high { result ≤ℤ pos most_height }
 {
     let _count = graph.vertex_count();
     let time = num * graph.vertex(v).deadline as u64;
@@ -63,11 +64,11 @@ fn closing(graph: &Graph, num: u64, potentials: &[i64], v: u32) -> i64
 
 // The greatest share of a vertex as the last of a walk.
 fn greatest_closing(graph: &Graph, num: u64, potentials: &[i64]) -> i64
-    requires num { num ≤ 1000000000 }
+    requires num { num ≤ most_term }
     requires near { AreNear graph.now potentials.now }
     ensures value { result ≡ most_over graph.now (λ w. potential_of potentials.now w -ℤ pos (num * deadline graph.now w)) }
     ensures low { negsuc 10999999999999999 ≤ℤ result }
-    ensures high { result ≤ℤ pos 10000000000000000 }
+    ensures high { result ≤ℤ pos most_height }
 {
     let count = graph.vertex_count();
     let mut most = closing(graph, num, potentials, 0);
@@ -87,8 +88,8 @@ fn positive(z: i64) -> u64
 /// The constant of a graph at the ratio `num / den` where it is above 0, and else 0: what the work of a walk, times `den`, can be above
 /// its last deadline, times `num`, where the potentials fit. It takes no memory.
 pub fn constant(graph: &Graph, num: u64, den: u64, potentials: &[i64]) -> u64
-    requires num { num ≤ 1000000000 }
-    requires den { den ≤ 1000000000 }
+    requires num { num ≤ most_term }
+    requires den { den ≤ most_term }
     requires near { AreNear graph.now potentials.now }
     ensures value { result ≡ above_zero (constant_of graph.now num den potentials.now) }
     ensures most { result ≤ 21000000000000000 }

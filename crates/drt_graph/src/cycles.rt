@@ -3,7 +3,7 @@ ghost use Rattle.std.specs.Prelude.{◌≡◌, ◌*◌, ◌<◌, ◌≤◌, ◌�
 ghost use Rattle.drt_model.specs.Limits.{most_time};
 ghost use Rattle.drt_model.specs.Digraph.{vertex_count};
 ghost use Rattle.drt_model.specs.Walk.{wcet, sep, gap, IsEdge, IsCycle, work, cycle_span};
-ghost use Rattle.drt_graph.specs.RatioRules.{IsClosedCycle, IsTight};
+ghost use Rattle.drt_graph.specs.RatioRules.{IsClosedCycle, IsTight, most_term};
 
 use crate::graph::Graph;
 
@@ -101,8 +101,8 @@ pub fn is_closed(graph: &Graph, num: u64, cycle: &[u32]) -> bool
 
 /// Whether the list, where it isn't empty, has the ratio `num / den`: `den` times its work is `num` times its span. It takes no memory.
 pub fn is_tight(graph: &Graph, num: u64, den: u64, cycle: &[u32]) -> bool
-    requires num { num ≤ 1000000000 }
-    requires den { den ≤ 1000000000 }
+    requires num { num ≤ most_term }
+    requires den { den ≤ most_term }
     ensures { IsTrue result ↔ IsTight graph.now num den cycle.now }
 {
     let count = cycle.len();

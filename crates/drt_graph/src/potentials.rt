@@ -2,7 +2,7 @@
 ghost use Rattle.std.specs.Prelude.{◌≡◌, ℤ, pos, ◌*◌, ◌<◌, ◌≤◌, ◌≤ℤ◌, ◌-ℤ◌, ◌↔◌, IsTrue};
 ghost use Rattle.drt_model.specs.Digraph.{vertex_count, out_degree};
 ghost use Rattle.drt_graph.specs.Potential.{potential_of};
-ghost use Rattle.drt_graph.specs.RatioRules.{FitPotentials};
+ghost use Rattle.drt_graph.specs.RatioRules.{FitPotentials, most_term};
 ghost use Rattle.drt_graph.specs.Fits.{Allows, AllowAll};
 
 use crate::graph::Graph;
@@ -11,8 +11,8 @@ use crate::graph::Graph;
 /// less `num` times the separation is at most what the potential rises. A potential past the last one counts 0. It takes no
 /// memory.
 pub fn potentials_fit(graph: &Graph, num: u64, den: u64, potentials: &[i64]) -> bool
-    requires num { num ≤ 1000000000 }
-    requires den { den ≤ 1000000000 }
+    requires num { num ≤ most_term }
+    requires den { den ≤ most_term }
     ensures { IsTrue result ↔ FitPotentials graph.now num den potentials.now }
 {
     let _count = graph.vertex_count();
@@ -21,8 +21,8 @@ pub fn potentials_fit(graph: &Graph, num: u64, den: u64, potentials: &[i64]) -> 
 
 // Whether the potentials allow each edge.
 fn allow_all(graph: &Graph, num: u64, den: u64, potentials: &[i64]) -> bool
-    requires num { num ≤ 1000000000 }
-    requires den { den ≤ 1000000000 }
+    requires num { num ≤ most_term }
+    requires den { den ≤ most_term }
     ensures { IsTrue result ↔ AllowAll graph.now num den potentials.now }
 {
     'sources: for u in 0..graph.vertex_count() {
@@ -37,8 +37,8 @@ fn allow_all(graph: &Graph, num: u64, den: u64, potentials: &[i64]) -> bool
 
 // Whether the potentials allow the k-th edge out of `u`.
 fn allows(graph: &Graph, num: u64, den: u64, potentials: &[i64], u: u32, k: u32) -> bool
-    requires num { num ≤ 1000000000 }
-    requires den { den ≤ 1000000000 }
+    requires num { num ≤ most_term }
+    requires den { den ≤ most_term }
     requires vertex { u < vertex_count graph.now }
     requires edge { k < out_degree graph.now u }
     ensures { IsTrue result ↔ Allows graph.now num den potentials.now u k }

@@ -1,8 +1,8 @@
 -- What a plan says of a set.
 use Rattle.std.specs.Prelude.{◌≡◌, ℕ, ◌^◌, ◌<◌, ◌≤◌, List, Result, Ok, Err}
 use Rattle.drt_model.specs.Digraph.{Digraph}
-use Rattle.drt_model.specs.Utilisation.{IsScale, rate}
-use Rattle.drt_graph.specs.Horizon.{horizon}
+use Rattle.drt_model.specs.Utilisation.{IsScale, rate, most_scale}
+use Rattle.drt_graph.specs.Horizon.{horizon, most_horizon}
 use Rattle.drt_ratio.specs.declared.ratio_proof.RatioProof.{RatioProof}
 use Rattle.drt_ratio.specs.SetRatios.{fractions_of}
 use Rattle.drt_horizon.specs.declared.answers.Horizon.{Horizon}
@@ -23,11 +23,11 @@ horizon_at scale graphs proofs = horizon scale graphs (fractions_of proofs) (pot
 -- scale; or the scale exceeds 2^60; or it is at most that, and the horizon exceeds 2^40.
 abbrev pub IsPlanAt : ℕ → List Digraph → List RatioProof → Result Horizon Beyond → Type 0
 IsPlanAt scale graphs proofs (Ok (Under bound)) =
-    (scale ≤ 2 ^ 60) × (rate_at scale proofs < scale) × (horizon_at scale graphs proofs ≤ 2 ^ 40) × (bound ≡ horizon_at scale graphs proofs)
-IsPlanAt scale graphs proofs (Ok One) = (scale ≤ 2 ^ 60) × (rate_at scale proofs ≡ scale)
-IsPlanAt scale graphs proofs (Ok Over) = (scale ≤ 2 ^ 60) × (scale < rate_at scale proofs)
-IsPlanAt scale graphs proofs (Err TooFine) = 2 ^ 60 < scale
-IsPlanAt scale graphs proofs (Err TooFar) = (scale ≤ 2 ^ 60) × (rate_at scale proofs < scale) × (2 ^ 40 < horizon_at scale graphs proofs)
+    (scale ≤ most_scale) × (rate_at scale proofs < scale) × (horizon_at scale graphs proofs ≤ most_horizon) × (bound ≡ horizon_at scale graphs proofs)
+IsPlanAt scale graphs proofs (Ok One) = (scale ≤ most_scale) × (rate_at scale proofs ≡ scale)
+IsPlanAt scale graphs proofs (Ok Over) = (scale ≤ most_scale) × (scale < rate_at scale proofs)
+IsPlanAt scale graphs proofs (Err TooFine) = most_scale < scale
+IsPlanAt scale graphs proofs (Err TooFar) = (scale ≤ most_scale) × (rate_at scale proofs < scale) × (most_horizon < horizon_at scale graphs proofs)
 
 -- It is so at the scale of the set's ratios.
 abbrev pub IsHorizonPlan : List Digraph → List RatioProof → Result Horizon Beyond → Type 0

@@ -9,6 +9,10 @@ use Rattle.drt_lock.specs.declared.view.SeatView.{SeatView}
 use Rattle.drt_lock.specs.declared.view.Grip.{Grip}
 use Rattle.drt_lock.specs.declared.view.Grip.TheVariants.{Away, Locked, Working}
 
+-- The parts of all seats together.
+abbrev pub all_parts : ℕ
+all_parts = 1024
+
 -- 1 where the seat has the lock.
 abbrev pub locking : Grip → ℕ
 locking Away = 0
@@ -82,7 +86,7 @@ module _ {F : Type 0} where
     pub wide : length s.words ≡ 2
     pub single : slice_index s.words 0 ≤ 1
     pub held : total locks s.views ≡ slice_index s.words 0
-    pub parts : total (λ v. v.parts) s.views ≡ 1024
+    pub parts : total (λ v. v.parts) s.views ≡ all_parts
     pub counts : total (λ v. v.count) s.views ≡ slice_index s.words 1
     pub each : (i : ℕ) (v : SeatView F) → get_elem? s.views i ≡ some v → IsKnown key (slice_index s.words 1) v
     pub home : total works s.views ≡ 0 → (y : S) × (get_elem? s.homes 0 ≡ some (some y)) × (fixed y ≡ key) × (entries y ≡ slice_index s.words 1)

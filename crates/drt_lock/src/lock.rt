@@ -2,7 +2,7 @@
 
 ghost use Rattle.std.specs.Prelude.{◌≡◌, ℕ, ◌+◌, ◌-◌, ◌^◌, ◌<◌, ◌≤◌, IfOk, IfSome, IfNone, MatchBool};
 ghost use Rattle.drt_lock.specs.Seats.{Knows, IsAtWork, Rests, HoldsMachine};
-ghost use Rattle.drt_lock.specs.Rule.{with_grip};
+ghost use Rattle.drt_lock.specs.Rule.{with_grip, all_parts};
 ghost use Rattle.drt_lock.specs.declared.view.Grip.TheVariants.{Away, Locked};
 
 use crate::rule::{Count, Cut, Glue, Grab, Guarded, Leave, Rule, Take};
@@ -51,7 +51,7 @@ impl<M: Guarded + Drop> Lock<M> {
         requires empty { M.entries machine ≡ 0 }
         ensures fixed { IfOk result (λ r. r.0.fixed ≡ fixed.value) }
         ensures name { IfOk result (λ r. r.1.table_id ≡ r.0.name) }
-        ensures seat { IfOk result (λ r. Rests fixed.value 1024 0 r.1.me) }
+        ensures seat { IfOk result (λ r. Rests fixed.value all_parts 0 r.1.me) }
     {
         let mut slots = Vec::with_capacity(alloc, 1)?;
         slots.push_reserved(machine);
@@ -198,7 +198,7 @@ impl<M: Guarded + Drop> Lock<M> {
     /// The machine, once the seat has every part. Its log is as long as what the seats counted.
     pub fn close(self, seat: Seat<M, SeatView<M::Fixed>>) -> M
         requires name { seat.table_id ≡ self.name }
-        requires seat { Rests self.fixed 1024 seat.me.0.count seat.me }
+        requires seat { Rests self.fixed all_parts seat.me.0.count seat.me }
         ensures fixed { M.fixed result ≡ self.fixed }
         ensures entries { M.entries result ≡ seat.me.0.count }
     {

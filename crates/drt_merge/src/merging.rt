@@ -1,5 +1,6 @@
 //! The front of a task's walks.
 ghost use Rattle.std.specs.Prelude.{◌≡◌, ◌*◌, ◌<◌, ◌≤◌, true, IfOk, IfSome, length};
+ghost use Rattle.drt_graph.specs.Horizon.{most_horizon};
 ghost use Rattle.drt_effort.specs.Efforts.{most_budget};
 ghost use Rattle.drt_model.specs.Digraph.{IsConstrainedGraph, vertex_count};
 ghost use Rattle.drt_merge.specs.Arcs.{AreArcs};
@@ -52,7 +53,7 @@ pub enum Patience {
 
 // Takes the candidate of an arc. Returns the steps that count for it, or None where it comes out of order.
 fn take(walks: Walks<'_>, merging: &mut Merging, k: u32) -> Result<Option<u64>, Memory>
-    requires bound { walks.bound ≤ 1099511627776 }
+    requires bound { walks.bound ≤ most_horizon }
     requires arcs { AreArcs walks.graph.now walks.arcs.now }
     requires count { length walks.arcs.now ≤ 65535 }
     requires arc { k < length walks.arcs.now }
@@ -93,7 +94,7 @@ fn take_all(
     budget: u64,
     patience: Patience,
 ) -> Result<bool, Memory>
-    requires bound { walks.bound ≤ 1099511627776 }
+    requires bound { walks.bound ≤ most_horizon }
     requires few { budget ≤ most_budget }
     requires steps { spent ≤ budget }
     requires arcs { AreArcs walks.graph.now walks.arcs.now }
@@ -135,7 +136,7 @@ fn finish(
     budget: u64,
     patience: Patience,
 ) -> Result<bool, Memory>
-    requires bound { walks.bound ≤ 1099511627776 }
+    requires bound { walks.bound ≤ most_horizon }
     requires few { budget ≤ most_budget }
     requires steps { spent ≤ budget }
     requires arcs { AreArcs walks.graph.now walks.arcs.now }
@@ -166,7 +167,7 @@ fn merge(
     budget: u64,
     patience: Patience,
 ) -> Result<Option<Lists>, Memory>
-    requires bound { bound ≤ 1099511627776 }
+    requires bound { bound ≤ most_horizon }
     requires few { budget ≤ most_budget }
     requires steps { opened.spent ≤ budget }
     requires rows { AreRows graph.now bound opened.lists }
@@ -207,7 +208,7 @@ pub fn merged_front(
     patience: Patience,
 ) -> Result<Option<Row<FrontEntry>>, Memory>
     requires constrained { IsConstrainedGraph graph.now }
-    requires bound { bound ≤ 1099511627776 }
+    requires bound { bound ≤ most_horizon }
     requires few { budget ≤ most_budget }
     ensures { IfOk result (λ r. IfSome r (IsMergedFront graph.now bound)) }
 {

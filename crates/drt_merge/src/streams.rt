@@ -1,5 +1,6 @@
 //! The candidates of the arcs.
 ghost use Rattle.std.specs.Prelude.{◌≡◌, ◌<◌, ◌≤◌, ◌↔◌, IfOk, IfSome, IsTrue, length};
+ghost use Rattle.drt_graph.specs.Horizon.{most_horizon};
 ghost use Rattle.drt_merge.specs.Arcs.{AreArcs};
 ghost use Rattle.drt_merge.specs.Arcs.{IsArc};
 ghost use Rattle.drt_merge.specs.Marks.{row, AreRows};
@@ -33,7 +34,7 @@ pub struct Merging {
 
 // The candidate that the mark at a place gives by an arc, where it is due within the bound.
 fn candidate(graph: &Graph, bound: u64, lists: &Lists, arc: Arc, place: usize) -> Option<Mark>
-    requires bound { bound ≤ 1099511627776 }
+    requires bound { bound ≤ most_horizon }
     requires arc { IsArc graph.now arc }
     requires rows { AreRows graph.now bound lists.now }
     ensures candidate { IsCandidate bound lists.now arc place result }
@@ -55,7 +56,7 @@ fn candidate(graph: &Graph, bound: u64, lists: &Lists, arc: Arc, place: usize) -
 
 // The first place from this one on whose candidate by the arc isn't covered by the last mark of the arc's target.
 fn first_uncovered(graph: &Graph, bound: u64, lists: &Lists, arc: Arc, from: usize) -> usize
-    requires bound { bound ≤ 1099511627776 }
+    requires bound { bound ≤ most_horizon }
     requires arc { IsArc graph.now arc }
     requires rows { AreRows graph.now bound lists.now }
     requires place { from ≤ length (row lists.now arc.source) }
@@ -83,7 +84,7 @@ fn first_uncovered(graph: &Graph, bound: u64, lists: &Lists, arc: Arc, from: usi
 
 /// Moves the cursor of an arc past the marks whose candidates are covered, and sets the next candidate in the queue.
 pub fn refresh(walks: Walks<'_>, merging: &mut Merging, k: u32)
-    requires bound { walks.bound ≤ 1099511627776 }
+    requires bound { walks.bound ≤ most_horizon }
     requires arcs { AreArcs walks.graph.now walks.arcs.now }
     requires merging { IsMerging walks.graph.now walks.bound walks.arcs.now merging.old.lists merging.old.cursors.items }
     requires arc { k < length walks.arcs.now }
@@ -99,7 +100,7 @@ pub fn refresh(walks: Walks<'_>, merging: &mut Merging, k: u32)
 
 /// Does the same for each arc without a candidate, of those with a number of at least `from` and below `to`.
 pub fn wake(walks: Walks<'_>, merging: &mut Merging, from: u32, to: u32)
-    requires bound { walks.bound ≤ 1099511627776 }
+    requires bound { walks.bound ≤ most_horizon }
     requires arcs { AreArcs walks.graph.now walks.arcs.now }
     requires merging { IsMerging walks.graph.now walks.bound walks.arcs.now merging.old.lists merging.old.cursors.items }
     requires within { to ≤ length walks.arcs.now }
@@ -114,7 +115,7 @@ pub fn wake(walks: Walks<'_>, merging: &mut Merging, from: u32, to: u32)
 
 /// Offers the candidate of an arc.
 pub fn step(walks: Walks<'_>, merging: &mut Merging, k: u32) -> Result<Outcome, Memory>
-    requires bound { walks.bound ≤ 1099511627776 }
+    requires bound { walks.bound ≤ most_horizon }
     requires arcs { AreArcs walks.graph.now walks.arcs.now }
     requires merging { IsMerging walks.graph.now walks.bound walks.arcs.now merging.old.lists merging.old.cursors.items }
     requires arc { k < length walks.arcs.now }
@@ -143,7 +144,7 @@ pub fn step(walks: Walks<'_>, merging: &mut Merging, k: u32) -> Result<Outcome, 
 
 /// Whether no arc has a candidate.
 pub fn are_spent(walks: Walks<'_>, merging: &Merging) -> bool
-    requires bound { walks.bound ≤ 1099511627776 }
+    requires bound { walks.bound ≤ most_horizon }
     requires arcs { AreArcs walks.graph.now walks.arcs.now }
     requires merging { IsMerging walks.graph.now walks.bound walks.arcs.now merging.now.lists merging.now.cursors.items }
     ensures { IsTrue result ↔ AreSpentTo walks.entry.bound walks.entry.arcs.now merging.now.lists merging.now.cursors.items (length walks.entry.arcs.now) }

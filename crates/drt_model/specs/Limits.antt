@@ -27,6 +27,10 @@ pub record IsName (name : List ℕ) : Type 0 where
   pub at_most_32 : length name ≤ 32
   pub bytes : All IsNameByte name
 
+-- The greatest number of 32 bits.
+abbrev pub most_number : ℕ
+most_number = 4294967295
+
 -- The greatest time of a file, in ticks.
 abbrev pub most_time : ℕ
 most_time = 1000000

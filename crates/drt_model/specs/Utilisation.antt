@@ -1,5 +1,5 @@
 -- The ratio of a task and the utilisation of a set (Stigge, Ekberg, Guan and Yi, RTAS 2011), as statements about all cycles.
-use Rattle.std.specs.Prelude.{◌≡◌, ◌≢◌, ℕ, ◌+◌, ◌*◌, ◌/◌, ◌<◌, ◌≤◌, List, [], ◌∷◌, length, slice_index}
+use Rattle.std.specs.Prelude.{◌≡◌, ◌≢◌, ℕ, ◌+◌, ◌*◌, ◌/◌, ◌^◌, ◌<◌, ◌≤◌, List, [], ◌∷◌, length, slice_index}
 use Rattle.std.specs.Int.{◌∣◌, IsGcd}
 use Rattle.drt_model.specs.Digraph.{Digraph}
 use Rattle.drt_model.specs.Walk.{work, IsCycle, cycle_span}
@@ -40,6 +40,10 @@ AreRatios (g ∷ graphs) (r ∷ ratios) = IsRatio g r × AreRatios graphs ratios
 abbrev pub EachDivides : List Fraction → ℕ → Type 0
 EachDivides [] m = Unit {0}
 EachDivides (r ∷ ratios) m = (r.den ∣ m) × EachDivides ratios m
+
+-- The greatest scale that is reckoned with: 2^60.
+abbrev pub most_scale : ℕ
+most_scale = 2 ^ 60
 
 -- The scale L of a set is the least common multiple of the denominators of its ratios.
 pub record IsScale (ratios : List Fraction) (scale : ℕ) : Type 0 where

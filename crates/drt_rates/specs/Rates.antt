@@ -1,18 +1,19 @@
 -- The graphs of a set, with a ratio and potentials for each.
 use Rattle.std.specs.Prelude.{ℕ, ◌^◌, ◌<◌, ◌≤◌, ℤ, List, [], ◌∷◌}
+use Rattle.drt_graph.specs.RatioRules.{most_term}
 use Rattle.drt_model.specs.Digraph.{Digraph}
-use Rattle.drt_model.specs.Utilisation.{Fraction, IsScale}
+use Rattle.drt_model.specs.Utilisation.{Fraction, IsScale, most_scale}
 use Rattle.drt_graph.specs.Fits.{AreNear}
 
 -- The numerator is at most 1,000,000,000, and the denominator is 1 to 1,000,000,000.
 pub record IsSmallRatio (r : Fraction) : Type 0 where
-  pub num : r.num ≤ 1000000000
+  pub num : r.num ≤ most_term
   pub some : 1 ≤ r.den
-  pub den : r.den ≤ 1000000000
+  pub den : r.den ≤ most_term
 
 -- The scale of the ratios exceeds 2^60.
 abbrev pub IsTooFine : List Fraction → Type 0
-IsTooFine ratios = (scale : ℕ) × IsScale ratios scale × (2 ^ 60 < scale)
+IsTooFine ratios = (scale : ℕ) × IsScale ratios scale × (most_scale < scale)
 
 -- There is an item for each graph, in order, whose fraction is small, and whose heights are potentials near 0.
 abbrev pub AreRated : {X : Type 0} → (X → Fraction) → (X → List ℤ) → List Digraph → List X → Type 0

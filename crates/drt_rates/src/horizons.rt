@@ -1,6 +1,6 @@
 //! The horizon of a set.
 ghost use Rattle.std.specs.Prelude.{◌≡◌, ◌*◌, ◌/◌, ◌^◌, ◌<◌, ◌≤◌, map};
-ghost use Rattle.drt_model.specs.Utilisation.{rate as rate_of};
+ghost use Rattle.drt_model.specs.Utilisation.{rate as rate_of, most_scale};
 ghost use Rattle.drt_graph.specs.Horizon.{extra, constant_of, above_zero};
 ghost use Rattle.drt_graph.specs.Horizon.{horizon as horizon_of};
 ghost use Rattle.drt_graph.specs.Fits.{AreNear};
@@ -13,7 +13,7 @@ use drt_graph::{Graph, Graphs, constant};
 fn extra_at<R: Rated>(graph: &Graph, ratio: &R::Item, scale: u64) -> u128
     requires small { IsSmallRatio (R.fraction ratio.now) }
     requires near { AreNear graph.now (R.heights ratio.now) }
-    requires scale { scale ≤ 2 ^ 60 }
+    requires scale { scale ≤ most_scale }
     ensures value { result ≡ above_zero (constant_of graph.now (R.fraction ratio.now).num (R.fraction ratio.now).den (R.heights ratio.now)) * (scale / (R.fraction ratio.now).den) }
     ensures most { result ≤ 25364273101350633472000000000000000 }
 {
@@ -26,7 +26,7 @@ fn extra_at<R: Rated>(graph: &Graph, ratio: &R::Item, scale: u64) -> u128
 // The sum of the constants at the scale.
 fn extra_of<R: Rated>(graphs: &Graphs, ratios: &[R::Item], scale: u64) -> u128
     requires rated { AreRated R.fraction R.heights graphs.now ratios.now }
-    requires scale { scale ≤ 2 ^ 60 }
+    requires scale { scale ≤ most_scale }
     ensures { result ≡ extra scale graphs.now (map R.fraction ratios.now) (map R.heights ratios.now) }
 {
     let mut total: u128 = 0;
@@ -41,7 +41,7 @@ fn extra_of<R: Rated>(graphs: &Graphs, ratios: &[R::Item], scale: u64) -> u128
 /// Source: Stigge, Ekberg, Guan and Yi, "The Digraph Real-Time Task Model" (RTAS 2011), with potentials for the constants.
 pub fn horizon<R: Rated>(graphs: &Graphs, ratios: &[R::Item], scale: u64, rate: u128) -> u128
     requires rated { AreRated R.fraction R.heights graphs.now ratios.now }
-    requires scale { scale ≤ 2 ^ 60 }
+    requires scale { scale ≤ most_scale }
     requires rate { rate ≡ rate_of scale (map R.fraction ratios.now) }
     requires below { rate < scale }
     ensures { result ≡ horizon_of scale graphs.now (map R.fraction ratios.now) (map R.heights ratios.now) }

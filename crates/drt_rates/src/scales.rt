@@ -1,6 +1,6 @@
 //! The scale and the rate of a set.
 ghost use Rattle.std.specs.Prelude.{◌≡◌, ◌^◌, ◌≤◌, All, MatchOption, length, map};
-ghost use Rattle.drt_model.specs.Utilisation.{IsScale};
+ghost use Rattle.drt_model.specs.Utilisation.{IsScale, most_scale};
 ghost use Rattle.drt_model.specs.Utilisation.{rate as rate_of};
 ghost use Rattle.drt_rates.specs.Rates.{IsSmallRatio, IsTooFine};
 
@@ -13,7 +13,7 @@ const GREATEST_SCALE: u64 = 1 << 60;
 /// no memory.
 pub fn scale<R: Rated>(ratios: &[R::Item]) -> Option<u64>
     requires { All (λ x. IsSmallRatio (R.fraction x)) ratios.now }
-    ensures { MatchOption result (IsTooFine (map R.fraction ratios.now)) (λ scale. IsScale (map R.fraction ratios.now) scale × (scale ≤ 2 ^ 60)) }
+    ensures { MatchOption result (IsTooFine (map R.fraction ratios.now)) (λ scale. IsScale (map R.fraction ratios.now) scale × (scale ≤ most_scale)) }
 {
     let mut common: u64 = 1;
     'ratios: for i in 0..ratios.len() {

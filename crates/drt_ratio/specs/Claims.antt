@@ -1,6 +1,7 @@
 -- The greatest ratio of a graph with its evidence.
 use Rattle.std.specs.Prelude.{ℕ, ◌<◌, ◌≤◌, ℤ, pos, ◌≤ℤ◌, List}
 use Rattle.std.specs.Int.{IsGcd}
+use Rattle.drt_graph.specs.Fits.{most_height}
 use Rattle.drt_model.specs.Digraph.{Digraph, vertex_count}
 use Rattle.drt_model.specs.Utilisation.{BoundsCycles, HasRatio, AreDistinct}
 use Rattle.drt_graph.specs.Potential.{potential_of, AreCanonical}
@@ -19,4 +20,4 @@ pub record IsInReach (g : Digraph) (a b : ℕ) (hs : List ℤ) : Type 0 where
   pub num : a ≤ 100000000
   pub den : b ≤ 100000000
   pub low : (v : ℕ) → v < vertex_count g → pos 0 ≤ℤ potential_of hs v
-  pub high : (v : ℕ) → v < vertex_count g → potential_of hs v ≤ℤ pos 10000000000000000
+  pub high : (v : ℕ) → v < vertex_count g → potential_of hs v ≤ℤ pos most_height

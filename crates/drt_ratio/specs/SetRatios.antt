@@ -1,8 +1,9 @@
 -- The ratios of a set, as its claims have them.
 use Rattle.std.specs.Prelude.{◌≡◌, ℕ, ◌*◌, ◌^◌, ◌≤◌, List, [], ◌∷◌, map}
 use Rattle.std.specs.Int.{IsGcd}
+use Rattle.drt_graph.specs.RatioRules.{most_term}
 use Rattle.drt_model.specs.Digraph.{Digraph}
-use Rattle.drt_model.specs.Utilisation.{Fraction, AreRatios, IsScale, rate}
+use Rattle.drt_model.specs.Utilisation.{Fraction, AreRatios, IsScale, rate, most_scale}
 use Rattle.drt_ratio.specs.declared.ratio_proof.RatioProof.{RatioProof}
 use Rattle.drt_ratio.specs.Claims.{IsRatioProof}
 
@@ -17,11 +18,11 @@ fractions_of proofs = map fraction_of_proof proofs
 -- Each numerator and each denominator is at most 1,000,000,000.
 abbrev pub AreSmall : List RatioProof → Type 0
 AreSmall [] = Unit {0}
-AreSmall (p ∷ proofs) = (p.ratio.num ≤ 1000000000) × (p.ratio.den ≤ 1000000000) × AreSmall proofs
+AreSmall (p ∷ proofs) = (p.ratio.num ≤ most_term) × (p.ratio.den ≤ most_term) × AreSmall proofs
 
 -- The fraction a / b is the rate of the ratios over their scale, in lowest terms, where the scale is at most 2^60.
 abbrev pub IsUtilisation : List Fraction → ℕ → ℕ → Type 0
-IsUtilisation ratios a b = (scale : ℕ) × IsScale ratios scale × (scale ≤ 2 ^ 60) × (a * scale ≡ rate scale ratios * b) × IsGcd a b 1 × (1 ≤ b)
+IsUtilisation ratios a b = (scale : ℕ) × IsScale ratios scale × (scale ≤ most_scale) × (a * scale ≡ rate scale ratios * b) × IsGcd a b 1 × (1 ≤ b)
 
 -- Each claim is the ratio of its graph with its evidence, in order.
 abbrev pub AreRatioProofs : List Digraph → List RatioProof → Type 0

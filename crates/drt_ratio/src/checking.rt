@@ -1,6 +1,6 @@
 //! Whether a claimed ratio keeps the rules.
 ghost use Rattle.std.specs.Prelude.{◌≤◌, ◌↔◌, IsTrue};
-ghost use Rattle.drt_graph.specs.RatioRules.{ProvesRatio};
+ghost use Rattle.drt_graph.specs.RatioRules.{ProvesRatio, most_term};
 
 use crate::ratio_proof::RatioProof;
 use drt_graph::{Graph, is_closed, is_tight, potentials_fit};
@@ -8,8 +8,8 @@ use drt_graph::{Graph, is_closed, is_tight, potentials_fit};
 /// Whether the claim keeps the rules: there are as many potentials as vertices, they fit each edge, the cycle is empty
 /// exactly where the ratio is 0 and else a cycle of the graph, and it has the ratio. It takes no memory.
 pub fn check_ratio(graph: &Graph, proof: &RatioProof) -> bool
-    requires num { proof.now.ratio.num ≤ 1000000000 }
-    requires den { proof.now.ratio.den ≤ 1000000000 }
+    requires num { proof.now.ratio.num ≤ most_term }
+    requires den { proof.now.ratio.den ≤ most_term }
     ensures { IsTrue result ↔ ProvesRatio graph.now proof.now.ratio.num proof.now.ratio.den proof.now.cycle proof.now.potentials }
 {
     let num = proof.ratio.num() as u64;

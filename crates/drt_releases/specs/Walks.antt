@@ -6,7 +6,7 @@ use Rattle.drt_graph.specs.Graphs.{AreGraphs, graph_of}
 use Rattle.drt_busy.specs.Choice.{AreDueBy, AreWalks, IsWalk, due_of}
 use Rattle.drt_busy.specs.WalkReleases.{all_releases}
 use Rattle.drt_claims.specs.Claims.{graphs_of}
-use Rattle.drt_claims.specs.Ranges.{IsInRangeRelease}
+use Rattle.drt_claims.specs.Ranges.{IsInRangeRelease, most_ticks}
 
 -- The walk of task k in a list of them, one for each task; no walk past its end.
 abbrev pub walk_at : List (List ℕ) → ℕ → List ℕ
@@ -20,4 +20,4 @@ AreDueWalks graphs walks t = (k : ℕ) → k < length graphs → IsWalk (graph_o
 abbrev pub AreReleasesInRange : Type 0
 AreReleasesInRange =
     (tasks : List Task) (walks : ℕ → List ℕ) (t : ℕ) → AreGraphs (graphs_of tasks) → AreWalks tasks walks → AreDueBy tasks walks t
-    → t ≤ 1000000000000000000 → All IsInRangeRelease (all_releases tasks walks (length tasks))
+    → t ≤ most_ticks → All IsInRangeRelease (all_releases tasks walks (length tasks))

@@ -1,5 +1,6 @@
 //! The releases of walks.
 ghost use Rattle.std.specs.Prelude.{◌≡◌, ℕ, ◌<◌, ◌≤◌, List, ◌++◌, length, IfOk};
+ghost use Rattle.drt_claims.specs.Ranges.{most_ticks};
 ghost use Rattle.drt_model.specs.declared.tasks.Task.{Task};
 ghost use Rattle.drt_model.specs.Digraph.{vertex_count};
 ghost use Rattle.drt_busy.specs.Choice.{IsWalk, due_of};
@@ -19,7 +20,7 @@ pub fn all_releases(
     t: u64,
 ) -> Result<Vec<Release>, Memory>
     requires walks { AreDueWalks graphs.now (walk_at walks.now) t }
-    requires time { t ≤ 1000000000000000000 }
+    requires time { t ≤ most_ticks }
     ensures { IfOk result (λ releases. (tasks : List Task) → graphs.now ≡ graphs_of tasks → releases.items ≡ all_releases tasks (walk_at walks.now) (length tasks)) }
 {
     let mut releases = Vec::with_capacity(alloc, release_count(walks))?;
@@ -58,7 +59,7 @@ fn add_releases(
 ) -> Result<(), Memory>
     requires walk { IsWalk graph.now walk.now }
     requires due { due_of graph.now walk.now ≤ t }
-    requires time { t ≤ 1000000000000000000 }
+    requires time { t ≤ most_ticks }
     ensures { IfOk result (λ none. releases.new.items ≡ releases.old.items ++ releases_of graph.now task walk.now) }
 {
     let count = graph.vertex_count();

@@ -1,5 +1,6 @@
 -- Which passes and which seat are those of a lock.
 use Rattle.std.specs.Prelude.{◌≡◌, ℕ, ◌+◌, ◌≤◌, None, Some, false, List}
+use Rattle.drt_lock.specs.Rule.{all_parts}
 use Rattle.atomic_table.specs.Seated.{TableId}
 use Rattle.atomic_table.specs.declared.shared.Seat.{Seat}
 use Rattle.drt_lock.specs.declared.view.SeatView.{SeatView}
@@ -25,4 +26,4 @@ module _ {L : Type 0} where
 
   -- The seat has the parts that so many passes don't have.
   abbrev pub IsOwner : TableId → Setting → ℕ → Seat (View L) (SeatView Setting) → Type 0
-  IsOwner name setting n s = (s.table_id ≡ name) × (s.me.0.parts + n ≡ 1024) × (n ≤ 16) × Rests setting s.me.0.parts 0 s.me
+  IsOwner name setting n s = (s.table_id ≡ name) × (s.me.0.parts + n ≡ all_parts) × (n ≤ 16) × Rests setting s.me.0.parts 0 s.me

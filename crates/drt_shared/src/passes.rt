@@ -1,6 +1,7 @@
 //! Giving passes out, and taking their counts in again.
 
 ghost use Rattle.std.specs.Prelude.{◌≡◌, ◌+◌, ◌<◌, ◌≤◌, [], length, vec_capacity};
+ghost use Rattle.drt_lock.specs.Rule.{all_parts};
 ghost use Rattle.drt_lock.specs.Seats.{Rests};
 ghost use Rattle.drt_pool.specs.Turns.{EachPlace};
 ghost use Rattle.drt_shared.specs.Passes.{is_any_halted};
@@ -24,10 +25,10 @@ pub(crate) fn deal<L: Label>(
     count: u32,
 )
     requires name { owner.old.table_id ≡ lock.now.name }
-    requires owner { (count ≤ 16) × Rests lock.now.fixed 1024 0 owner.old.me }
+    requires owner { (count ≤ 16) × Rests lock.now.fixed all_parts 0 owner.old.me }
     requires room { (into.old.items ≡ []) × (count ≤ vec_capacity into.old) }
     ensures name { owner.new.table_id ≡ lock.now.name }
-    ensures owner { (owner.new.me.0.parts + count ≡ 1024) × Rests lock.now.fixed owner.new.me.0.parts 0 owner.new.me }
+    ensures owner { (owner.new.me.0.parts + count ≡ all_parts) × Rests lock.now.fixed owner.new.me.0.parts 0 owner.new.me }
     ensures count { length into.new.items ≡ count }
     ensures passes { EachPlace (IsFresh lock.now.name lock.now.fixed) into.new.items }
 {
@@ -50,7 +51,7 @@ pub(crate) fn gather<L: Label>(
     mut passes: Vec<Pass<L>>,
 ) -> Table<L>
     requires name { owner.table_id ≡ lock.name }
-    requires owner { (0 < owner.me.0.parts) × (owner.me.0.parts + length passes.items ≡ 1024) × Rests lock.fixed owner.me.0.parts 0 owner.me }
+    requires owner { (0 < owner.me.0.parts) × (owner.me.0.parts + length passes.items ≡ all_parts) × Rests lock.fixed owner.me.0.parts 0 owner.me }
     requires passes { AreOf lock.name lock.fixed passes.items }
     ensures setting { setting_of result ≡ lock.fixed }
     ensures count { length result.log ≡ total (λ p. p.count) passes.items }

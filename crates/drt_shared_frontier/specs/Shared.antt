@@ -1,5 +1,6 @@
 -- Which passes and which seat are those of a lock.
 use Rattle.std.specs.Prelude.{◌≡◌, ℕ, ◌+◌, ◌≤◌, None, Some, List, length}
+use Rattle.drt_lock.specs.Rule.{all_parts}
 use Rattle.drt_effort.specs.Efforts.{most_budget}
 use Rattle.drt_model.specs.Limits.{most_time}
 use Rattle.atomic_table.specs.Seated.{TableId}
@@ -26,7 +27,7 @@ AreOf name setting ps = EachPlace (λ place p. (p.name ≡ name) × (p.setting �
 
 -- The seat has the parts that so many passes don't have.
 abbrev pub IsFrontierOwner : TableId → FrontierSetting → ℕ → Seat BoardOf (SeatView FrontierSetting) → Type 0
-IsFrontierOwner name setting n s = (s.table_id ≡ name) × (s.me.0.parts + n ≡ 1024) × (n ≤ 16) × Rests setting s.me.0.parts 0 s.me
+IsFrontierOwner name setting n s = (s.table_id ≡ name) × (s.me.0.parts + n ≡ all_parts) × (n ≤ 16) × Rests setting s.me.0.parts 0 s.me
 
 -- What a frontier was started with: few roots, this wcet and deadline, and a budget that is no greater than any may be.
 pub record IsStarted (t : FrontierSetting) (wcet deadline : ℕ) : Type 0 where

@@ -1,6 +1,7 @@
 //! Giving passes out, and taking their counts in again.
 
 ghost use Rattle.std.specs.Prelude.{◌≡◌, ◌+◌, ◌<◌, ◌≤◌, [], length, IfOk};
+ghost use Rattle.drt_lock.specs.Rule.{all_parts};
 ghost use Rattle.drt_lock.specs.Seats.{Rests};
 ghost use Rattle.drt_pool.specs.Turns.{EachPlace};
 ghost use Rattle.drt_refine.specs.Eager.{IsEager};
@@ -25,9 +26,9 @@ pub(crate) fn deal(
     count: u32,
 ) -> Result<Vec<FrontierPass>, Memory>
     requires name { owner.old.table_id ≡ lock.now.name }
-    requires owner { (count ≤ 16) × Rests lock.now.fixed 1024 0 owner.old.me }
+    requires owner { (count ≤ 16) × Rests lock.now.fixed all_parts 0 owner.old.me }
     ensures name { IfOk result (λ passes. owner.new.table_id ≡ lock.now.name) }
-    ensures owner { IfOk result (λ passes. (owner.new.me.0.parts + count ≡ 1024) × Rests lock.now.fixed owner.new.me.0.parts 0 owner.new.me) }
+    ensures owner { IfOk result (λ passes. (owner.new.me.0.parts + count ≡ all_parts) × Rests lock.now.fixed owner.new.me.0.parts 0 owner.new.me) }
     ensures count { IfOk result (λ passes. length passes.items ≡ count) }
     ensures passes { IfOk result (λ passes. EachPlace (IsFresh lock.now.name lock.now.fixed roots.now) passes.items) }
 {
@@ -53,7 +54,7 @@ pub(crate) fn gather(
     mut passes: Vec<FrontierPass>,
 ) -> Frontier
     requires name { owner.table_id ≡ lock.name }
-    requires owner { (0 < owner.me.0.parts) × (owner.me.0.parts + length passes.items ≡ 1024) × Rests lock.fixed owner.me.0.parts 0 owner.me }
+    requires owner { (0 < owner.me.0.parts) × (owner.me.0.parts + length passes.items ≡ all_parts) × Rests lock.fixed owner.me.0.parts 0 owner.me }
     requires passes { AreOf lock.name lock.fixed passes.items }
     ensures setting { setting_of lock.fixed.forest result ≡ lock.fixed }
     ensures count { length result.log ≡ total (λ p. p.count) passes.items }

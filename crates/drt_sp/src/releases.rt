@@ -1,6 +1,6 @@
 //! The releases of the walks that a tuple of leaves names.
 ghost use Rattle.std.specs.Prelude.{◌≡◌, ◌≤◌, length, All, IfOk};
-ghost use Rattle.drt_model.specs.Limits.{most_time};
+ghost use Rattle.drt_model.specs.Limits.{most_time, most_number};
 ghost use Rattle.drt_choices.specs.Laws.{leaf_releases};
 ghost use Rattle.drt_claims.specs.Ranges.{IsInRangeRelease};
 ghost use Rattle.drt_sp.specs.Answers.{IsTupleFor};
@@ -29,7 +29,7 @@ pub fn leaf_releases(
     requires end { end ≤ most_time }
     ensures releases { IfOk result (λ releases. releases ≡ leaf_releases set.now.tasks forest.now order.now shown.now.tuple shown.now.task shown.now.vertex end) }
     ensures range { IfOk result (λ releases. All IsInRangeRelease releases) }
-    ensures counted { IfOk result (λ releases. length releases ≤ 4294967295) }
+    ensures counted { IfOk result (λ releases. length releases ≤ most_number) }
 {
     releases_are_in_range();
     forest.show_sound();

@@ -1,7 +1,7 @@
 //! The tree of a task's walks: from its graph to the forest and to the dossier.
 ghost use Rattle.std.specs.Prelude.{◌≡◌, ◌+◌, ◌*◌, ◌≤◌, All, IfOk, IfSome, length};
 ghost use Rattle.drt_effort.specs.Efforts.{most_budget};
-ghost use Rattle.drt_model.specs.Limits.{most_time};
+ghost use Rattle.drt_model.specs.Limits.{most_time, most_number};
 ghost use Rattle.drt_request.specs.Request.{request_algebra};
 ghost use Rattle.drt_table.specs.Drive.{StopsAt};
 ghost use Rattle.drt_table.specs.View.{setting_of};
@@ -127,7 +127,7 @@ pub(crate) fn plant_tree(
     requires to { bound ≤ most_time }
     requires found { IfSome found (IsSearchEnd graph.now bound effort.budget) }
     requires functions { All (λ xs. length xs ≡ bound) forest.old.pool }
-    requires room { length forest.old.nodes + 2 * (most_time + 96) ≤ 4294967295 }
+    requires room { length forest.old.nodes + 2 * (most_time + 96) ≤ most_number }
     ensures { IfOk result (IsTreeSearch graph.now bound effort.budget forest.old forest.new) }
 {
     let end = take_or_search(alloc, graph, bound, found, effort)?;
@@ -157,7 +157,7 @@ pub fn search_tree(
     requires from { 1 ≤ bound }
     requires to { bound ≤ most_time }
     requires functions { All (λ xs. length xs ≡ bound) forest.old.pool }
-    requires room { length forest.old.nodes + 2 * (most_time + 96) ≤ 4294967295 }
+    requires room { length forest.old.nodes + 2 * (most_time + 96) ≤ most_number }
     ensures { IfOk result (IsTreeSearch graph.now bound effort.budget forest.old forest.new) }
 {
     plant_tree(alloc, graph, bound, None, effort, forest)

@@ -1,6 +1,7 @@
 //! One tree over leaves that lie in the forest.
 ghost use Rattle.std.specs.Prelude.{◌≡◌, ℕ, ◌+◌, ◌≤◌, ◌<◌, ◌*◌, ◌++◌, length, map, None, IfOk};
 ghost use Rattle.std.specs.Result.{OnErr, OnOk};
+ghost use Rattle.drt_model.specs.Limits.{most_number};
 ghost use Rattle.drt_tree.specs.Tree.{IsForest, Grows, HaveOneBound, children, plain, leaf_node, leaf_steps};
 ghost use Rattle.drt_tree.specs.Shape.{IsTreeAdded, IsBuilt};
 ghost use Rattle.drt_tree.specs.Leaf.{leaves_of};
@@ -78,7 +79,7 @@ fn grow_tree(
     requires same { length labels.now ≡ length walks.now }
     requires some { 1 ≤ length labels.now }
     requires bound { HaveOneBound pool.old.items (leaves_of labels.now walks.now) }
-    requires room { length nodes.old.items + 2 * length labels.now ≤ 4294967295 }
+    requires room { length nodes.old.items + 2 * length labels.now ≤ most_number }
     ensures grows { Grows (plain nodes.old.items pool.old.items) (plain nodes.new.items pool.new.items) }
     ensures added { IfOk result (λ root. IsTreeAdded (plain nodes.old.items pool.old.items) (plain nodes.new.items pool.new.items) (leaves_of labels.now walks.now) root) }
 {
@@ -102,7 +103,7 @@ pub fn add_tree(
     requires same { length labels.now ≡ length walks.now }
     requires some { 1 ≤ length labels.now }
     requires bound { HaveOneBound pool.old.items (leaves_of labels.now walks.now) }
-    requires room { length nodes.old.items + 2 * length labels.now ≤ 4294967295 }
+    requires room { length nodes.old.items + 2 * length labels.now ≤ most_number }
     ensures forest { IsForest (plain nodes.new.items pool.new.items) }
     ensures added { IfOk result (λ root. IsTreeAdded (plain nodes.old.items pool.old.items) (plain nodes.new.items pool.new.items) (leaves_of labels.now walks.now) root) }
     ensures err { OnErr result (plain nodes.new.items pool.new.items ≡ plain nodes.old.items pool.old.items) }

@@ -1,6 +1,7 @@
 //! The trees of a file.
 ghost use Rattle.std.specs.Prelude.{◌≡◌, ℕ, ◌+◌, ◌*◌, ◌≤◌, ◌<◌, [], length, Some, None, IfOk};
 ghost use Rattle.std.specs.Result.{OnErr};
+ghost use Rattle.drt_model.specs.Limits.{most_number};
 ghost use Rattle.drt_steps.specs.Values.{value_at};
 ghost use Rattle.drt_tree.specs.Leaf.{leaves_of};
 ghost use Rattle.drt_tree.specs.Shape.{IsTreeAdded};
@@ -56,7 +57,7 @@ impl Forest {
         requires same { length labels.now ≡ length walks.now }
         requires some { 1 ≤ length labels.now }
         requires bound { HaveOneBound self.old.pool (leaves_of labels.now walks.now) }
-        requires room { length self.old.nodes + 2 * length labels.now ≤ 4294967295 }
+        requires room { length self.old.nodes + 2 * length labels.now ≤ most_number }
         ensures added { IfOk result (λ root. IsTreeAdded self.old self.new (leaves_of labels.now walks.now) root) }
         ensures err { OnErr result (self.new ≡ self.old) }
     {

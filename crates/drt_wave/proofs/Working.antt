@@ -8,7 +8,7 @@ use Rattle.drt_model.specs.Digraph.{vertex_count, out_edges, out_degree, edge_of
 use Rattle.drt_model.specs.Walk.{wcet, deadline}
 use Rattle.drt_wave.specs.declared.plan.Plan.{Plan}
 use Rattle.drt_wave.specs.Net.{Among, Reached}
-use Rattle.drt_wave.specs.Cells.{width, offsets, cell_at, arcs_from, net_of, IsWavePlan, WalkTo}
+use Rattle.drt_wave.specs.Cells.{width, offsets, cell_at, arcs_from, net_of, IsWavePlan, WalkTo, most_cells}
 use Rattle.drt_wave.proofs.Cells.{arc_among, of_walk, to_walk, cell_lt, cell_vertex, cell_offset}
 
 module _ (p : Plan) where
@@ -29,11 +29,11 @@ module _ (p : Plan) where
       let small = walk_small plan (cell_at p v s / width p) walk.0 (cell_at p v s % width p) x walk.1 in
       subst (λ z. x ≤ most_time * (z + 1)) (cell_offset p v s le) small
 
-  pub bound_small : IsWavePlan p → (n : ℕ) → n ≤ 4194304 → n ≡ vertex_count p.graph * width p → p.bound < 4194304
+  pub bound_small : IsWavePlan p → (n : ℕ) → n ≤ most_cells → n ≡ vertex_count p.graph * width p → p.bound < most_cells
   bound_small plan n small is =
       let one : 1 * width p ≤ vertex_count p.graph * width p = mul-le 1 (width p) (vertex_count p.graph) (width p) plan.sound.some (omega arith) in omega (arith, one, is)
 
-  pub sum_fits : IsWavePlan p → (n v s x w : ℕ) → n ≤ 4194304 → n ≡ vertex_count p.graph * width p → s ≤ p.bound → Reached (net_of p) (cell_at p v s) x → w ≤ most_time → x + w < 2 ^ 64
+  pub sum_fits : IsWavePlan p → (n v s x w : ℕ) → n ≤ most_cells → n ≡ vertex_count p.graph * width p → s ≤ p.bound → Reached (net_of p) (cell_at p v s) x → w ≤ most_time → x + w < 2 ^ 64
   sum_fits plan n v s x w small is le r some = omega (arith, reached_small plan v s x le r, bound_small plan n small is)
 
   -- a walk that goes on by an edge
@@ -53,7 +53,7 @@ module _ (p : Plan) where
       let q : ℕ = p.bound / p.span in let m : ℕ = q * p.span in let split : m + p.bound % p.span ≡ p.bound = div-add-mod' p.bound p.span in
       let le : j * p.span ≤ m = mul-le j p.span q p.span (omega arith) (omega arith) in omega arith
 
-  pub size_small : IsWavePlan p → (n j : ℕ) → n ≤ 4194304 → n ≡ vertex_count p.graph * width p → (net_of p).size j < 2 ^ 64
+  pub size_small : IsWavePlan p → (n j : ℕ) → n ≤ most_cells → n ≡ vertex_count p.graph * width p → (net_of p).size j < 2 ^ 64
   size_small plan n j small is =
       let le : vertex_count p.graph * offsets p j ≤ vertex_count p.graph * width p = mul-le (vertex_count p.graph) (offsets p j) (vertex_count p.graph)
       (width p) (omega arith) (omega arith) in omega (arith, le, is)

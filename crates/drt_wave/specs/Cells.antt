@@ -6,6 +6,10 @@ use Rattle.drt_model.specs.Walk.{wcet, deadline}
 use Rattle.drt_wave.specs.declared.plan.Plan.{Plan}
 use Rattle.drt_wave.specs.Net.{Net}
 
+-- The greatest number of cells of a table: 2^22.
+abbrev pub most_cells : ℕ
+most_cells = 4194304
+
 -- how many offsets there are
 abbrev pub width : Plan → ℕ
 width p = p.bound + 1
@@ -39,7 +43,7 @@ net_of p = record {
 -- the greatest number that is at most each separation and at most how many offsets there are.
 pub record IsWavePlan (p : Plan) : Type 0 where
   pub sound : IsSoundGraph p.graph
-  pub small : vertex_count p.graph * width p ≤ 4194304
+  pub small : vertex_count p.graph * width p ≤ most_cells
   pub some : 0 < p.span
   pub apart : (v k : ℕ) → v < vertex_count p.graph → k < out_degree p.graph v → p.span ≤ (edge_of p.graph v k).sep
   pub within : p.span ≤ width p

@@ -1,5 +1,6 @@
 -- The rule of the claim words. There is one for each wave, modulo 2^64.
 use Rattle.std.specs.Prelude.{◌≡◌, ℕ, ◌+◌, ◌-◌, ◌%◌, ◌^◌, ◌<◌, ◌≤◌, ◌==◌, ◌&&◌, if◌then◌else◌, List, [], ◌∷◌, ◌++◌, length, slice_index}
+use Rattle.drt_lock.specs.Rule.{all_parts}
 use mathlib.Core.Option.{some}
 use lib.ListN.{get_elem?}
 use Rattle.atomic_table.specs.Table.{State, Me, Step}
@@ -39,7 +40,7 @@ with_draw v j t = record { parts = v.parts; draws = (j, t) ∷ v.draws }
 pub record InClaims {S : Type 0} (waves : ℕ) (s : State S ClaimView) : Type 0 where
   pub wide : length s.words ≡ waves
   pub drawn : ℕ → ℕ
-  pub parts : total_by (λ v. v.parts) s.views ≡ 1024
+  pub parts : total_by (λ v. v.parts) s.views ≡ all_parts
   pub claims : (j : ℕ) → j < waves → slice_index s.words j ≡ drawn j % 2 ^ 64
   -- each number below the claims of its wave was drawn once, and no other
   pub once : (j k : ℕ) → k < drawn j → total_by (λ v. times j k v.draws) s.views ≡ 1
@@ -50,7 +51,7 @@ pub record InClaims {S : Type 0} (waves : ℕ) (s : State S ClaimView) : Type 0 
 -- Number t of wave j was drawn, which is above those of the wave that the seat drew before, and r told of it. The seat with every part has drawn all numbers below it.
 abbrev pub Draws : ℕ → ℕ → ClaimView → ClaimView → Type 0
 Draws j r v w = (t : ℕ) × (r ≡ t % 2 ^ 64) × (w ≡ with_draw v j t)
-    × (v.parts ≡ 1024 → (k : ℕ) → k < t → Among (j, k) v.draws)
+    × (v.parts ≡ all_parts → (k : ℕ) → k < t → Among (j, k) v.draws)
     × ((k : ℕ) → Among (j, k) v.draws → k < t)
 
 -- what a step tells: of the step, the seat before, the number found and the seat after

@@ -1,5 +1,6 @@
 -- The rule of a lane. Its words are the cells of one vertex, by offset.
 use Rattle.std.specs.Prelude.{◌≡◌, ◌≢◌, ℕ, ◌+◌, ◌-◌, ◌<◌, ◌≤◌, max, ◌==◌, if◌then◌else◌, List, [], ◌∷◌, ◌++◌, length, slice_index, Some, None}
+use Rattle.drt_lock.specs.Rule.{all_parts}
 use mathlib.Core.Option.{some}
 use lib.ListN.{get_elem?}
 use Rattle.atomic_table.specs.Table.{State, Me, Step}
@@ -67,7 +68,7 @@ module _ {F : Type 0} (net : F → Net) (first count : F → ℕ) where
     pub lawful : IsNet (net key)
     pub wide : length s.words ≡ count key
     pub within : first key + count key ≤ (net key).cells
-    pub parts : total_by (λ v. v.parts) s.views ≡ 1024
+    pub parts : total_by (λ v. v.parts) s.views ≡ all_parts
     pub cell : (o : ℕ) → o < count key → slice_index s.words o ≡ max ((net key).opens (first key + o)) (greatest_by (λ v. most o v.raised) s.views)
     pub each : (i : ℕ) (v : LaneView F) → get_elem? s.views i ≡ some v → Knows key s.words v
 

@@ -1,5 +1,6 @@
 -- What a worker's seat is before and after a step.
 use Rattle.std.specs.Prelude.{◌≡◌, ◌≢◌, ◌⊎◌, ℕ, ◌+◌, ◌*◌, ◌<◌, ◌≤◌, ◌%◌, ◌/◌, ◌^◌, List, [], length, Vec, vec_capacity}
+use Rattle.drt_lock.specs.Rule.{all_parts}
 use mathlib.Core.Option.{some}
 use lib.ListN.{get_elem?}
 use Rattle.drt_model.specs.Digraph.{edge_of}
@@ -87,7 +88,7 @@ pub record HasClaimed (j r : ℕ) (s n : WaveSeat) : Type 0 where
   pub number : ℕ
   pub told : r ≡ number % 2 ^ 64
   pub drawn : Among (j, number) (draws_of n)
-  pub whole : parts_held s ≡ 1024 → (k : ℕ) → k < number → Among (j, k) (draws_of s)
+  pub whole : parts_held s ≡ all_parts → (k : ℕ) → k < number → Among (j, k) (draws_of s)
   pub above : (k : ℕ) → Among (j, k) (draws_of s) → k < number
   pub no_more : (i k : ℕ) → Among (i, k) (draws_of n) → ((i ≡ j) × (k ≡ number)) ⊎ Among (i, k) (draws_of s)
 

@@ -1,5 +1,6 @@
 -- What a seat is between the turns of a wave, and what of a table is worked.
 use Rattle.std.specs.Prelude.{◌≡◌, ℕ, ◌*◌, ◌<◌, ◌≤◌}
+use Rattle.drt_lock.specs.Rule.{all_parts}
 use Rattle.drt_wave.specs.declared.seat.WaveSeat.{WaveSeat}
 use Rattle.drt_wave.specs.declared.table.WaveTable.{WaveTable}
 use Rattle.drt_wave.specs.Cells.{net_of}
@@ -26,7 +27,7 @@ IsShift t j s = (j < (net_of t.plan).waves) × IsAtWork t j 1 s
 pub record IsWaveOwner (t : WaveTable) (j count waves : ℕ) (s : WaveSeat) : Type 0 where
   pub work : IsAtWork t j count s
   pub some : 0 < count
-  pub few : count ≤ 1024
+  pub few : count ≤ all_parts
   pub waves_are : waves ≡ (net_of t.plan).waves
   pub within : j ≤ waves
   pub drawn : HasDrawnBelow (net_of t.plan) j s

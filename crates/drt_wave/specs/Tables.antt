@@ -1,5 +1,6 @@
 -- What the parts of a table are to its plan.
 use Rattle.std.specs.Prelude.{◌≡◌, ℕ, ◌+◌, ◌<◌, List, length, slice_index}
+use Rattle.drt_lock.specs.Rule.{all_parts}
 use mathlib.Core.Option.{some}
 use lib.ListN.{get_elem?}
 use Rattle.drt_model.specs.Digraph.{vertex_count}
@@ -18,7 +19,7 @@ pub record AreLanes (p : Plan) (lanes : List Lane) : Type 0 where
 pub record AreOpened (p : Plan) (first : ℕ) (lanes : List Lane) (seats : List LaneSeat) : Type 0 where
   pub count : length seats ≡ length lanes
   pub lane : (i : ℕ) (l : Lane) → get_elem? lanes i ≡ some l → IsLane p (first + i) l
-  pub seat : (i : ℕ) (l : Lane) (y : LaneSeat) → get_elem? lanes i ≡ some l → get_elem? seats i ≡ some y → IsLaneSeat l y × (y.me.0 ≡ fresh_lane l.table.shared.key 1024)
+  pub seat : (i : ℕ) (l : Lane) (y : LaneSeat) → get_elem? lanes i ≡ some l → get_elem? seats i ≡ some y → IsLaneSeat l y × (y.me.0 ≡ fresh_lane l.table.shared.key all_parts)
 
 -- A list of words that lanes open from: as many as there are offsets, and zeros from the second one on.
 pub record IsBlank (p : Plan) (words : List ℕ) : Type 0 where

@@ -1,5 +1,6 @@
 //! The claim words: one for each wave, from which workers draw the numbers of its blocks.
 ghost use Rattle.std.specs.Prelude.{◌≡◌, ◌<◌, IfOk};
+ghost use Rattle.drt_lock.specs.Rule.{all_parts};
 ghost use Rattle.drt_wave.specs.Claims.{Draws, fresh_claims, claims_left, claims_right, claims_joined};
 
 use crate::rule::{Claim, ClaimRule, Cut, Glue};
@@ -28,7 +29,7 @@ impl Claims {
         requires some { 0 < waves }
         ensures words { IfOk result (λ r. r.0.table.shared.table_id.words ≡ waves) }
         ensures seat { IfOk result (λ r. IsClaimSeat r.0 r.1) }
-        ensures fresh { IfOk result (λ r. r.1.me.0 ≡ fresh_claims 1024) }
+        ensures fresh { IfOk result (λ r. r.1.me.0 ≡ fresh_claims all_parts) }
     {
         let words = vec![in alloc; 0u64; waves as usize]?;
         let (table, seat) = Table::of_words(alloc, words.as_slice(), &waves)?;

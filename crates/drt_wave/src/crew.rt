@@ -1,6 +1,6 @@
 //! How many workers a table has, and which waves they share.
 ghost use Rattle.std.specs.Prelude.{◌≡◌, ◌<◌, ◌≤◌};
-ghost use Rattle.drt_wave.specs.Cells.{net_of, IsWavePlan};
+ghost use Rattle.drt_wave.specs.Cells.{net_of, IsWavePlan, most_cells};
 ghost use Rattle.drt_wave.specs.Seats.{IsOfTable, IsSeatKept};
 
 use crate::plan::Plan;
@@ -195,7 +195,7 @@ fn load_of(table: &WaveTable, seat: &mut WaveSeat, wave: u32, looks: u64) -> u64
     requires looks { (1 ≤ looks) × (looks ≤ 64) }
     ensures seat { IsOfTable table.now seat.new }
     ensures kept { IsSeatKept seat.old seat.new }
-    ensures load { result ≤ 4194304 }
+    ensures load { result ≤ most_cells }
 {
     let size = table.wave_size(wave);
     let width = table.offsets(wave);

@@ -1,5 +1,6 @@
 //! What the workers of a table take their seats from.
 ghost use Rattle.std.specs.Prelude.{◌≡◌, [], IfOk, IfErr, IfSome};
+ghost use Rattle.drt_lock.specs.Rule.{all_parts};
 ghost use Rattle.drt_wave.specs.Cells.{net_of};
 ghost use Rattle.drt_wave.specs.Shifts.{IsAtWork, IsShift};
 ghost use Rattle.drt_wave.specs.Seats.{draws_of, KnowsTo, IsOfTable, HasRoomForLanes};
@@ -61,7 +62,7 @@ impl<'a> Guarded for Desk<'a> {
 impl<'a> Desk<'a> {
     /// A table of which no wave is worked.
     pub(crate) fn open(table: &'a WaveTable, owner: WaveSeat, crew: Crew) -> Desk<'a>
-        requires owner { IsAtWork table.now 0 1024 owner }
+        requires owner { IsAtWork table.now 0 all_parts owner }
         requires draws { draws_of owner ≡ [] }
         ensures { result ≡ table.now }
     {

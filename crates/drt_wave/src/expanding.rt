@@ -1,8 +1,9 @@
 //! What a worker does with a wave: it draws a block, and expands its cells.
 ghost use Rattle.std.specs.Prelude.{◌≡◌, ℕ, ◌+◌, ◌*◌, ◌^◌, ◌<◌, ◌≤◌, ◌/◌, ◌%◌, false};
+ghost use Rattle.drt_lock.specs.Rule.{all_parts};
 ghost use Rattle.drt_model.specs.Digraph.{vertex_count, out_degree};
 ghost use Rattle.drt_wave.specs.Net.{Reached};
-ghost use Rattle.drt_wave.specs.Cells.{net_of, cell_at};
+ghost use Rattle.drt_wave.specs.Cells.{net_of, cell_at, most_cells};
 ghost use Rattle.drt_wave.specs.Seats.{parts_held, KnowsTo, HasRaised, IsOfTable, IsExpanded, AllExpanded, IsSeatKept, Passed, IsPast, HasDrawn, HasDrawnBelow, Turned};
 ghost use Rattle.drt_wave.specs.Shifts.{HasWorked};
 ghost use Rattle.drt_wave.specs.Ways.{IsWayRow};
@@ -19,7 +20,7 @@ fn pass_one(table: &WaveTable, seat: &mut WaveSeat, way: Way, offset: u64, value
     requires vertex { way.vertex < vertex_count table.now.plan.graph }
     requires within { offset < way.end → way.gap + offset ≤ table.now.plan.bound }
     requires reached { offset < way.end → Reached (net_of table.now.plan) (cell_at table.now.plan way.vertex (way.gap + offset)) (value + way.work) }
-    requires small { table.now.plan.bound < 4194304 }
+    requires small { table.now.plan.bound < most_cells }
     requires fits { value + way.work < 2 ^ 64 }
     ensures seat { IsOfTable table.now seat.new }
     ensures kept { IsSeatKept seat.old seat.new }
@@ -73,9 +74,9 @@ fn expand(table: &WaveTable, seat: &mut WaveSeat, vertex: u32, offset: u64)
 
 // The row and the column of the number after this one in rows of `width`.
 fn next_place(row: u32, column: u64, width: u64) -> (u32, u64)
-    requires row { row < 4194304 }
+    requires row { row < most_cells }
     requires column { column < width }
-    requires width { width ≤ 4194304 }
+    requires width { width ≤ most_cells }
     ensures { (n : ℕ) → row ≡ n / width → column ≡ n % width → (result.0 ≡ (n + 1) / width) × (result.1 ≡ (n + 1) % width) }
 {
     if column + 1 < width {
@@ -128,9 +129,9 @@ pub(crate) fn turn(table: &WaveTable, seat: &mut WaveSeat, wave: u32) -> bool
     ensures turned { Turned seat.old seat.new }
     ensures all { AllExpanded table.now.plan seat.new }
     ensures past { result ≡ false → IsPast (net_of table.now.plan) wave seat.new }
-    ensures drawn { (b : ℕ) → parts_held seat.old ≡ 1024 → HasDrawn wave b seat.old → HasDrawn wave (b + 1) seat.new }
-    ensures worked { result ≡ false → parts_held seat.old ≡ 1024 → HasWorked table.now wave seat.new }
-    ensures known { result ≡ false → parts_held seat.old ≡ 1024 → HasDrawnBelow (net_of table.now.plan) wave seat.old → KnowsTo (wave + 1) seat.new }
+    ensures drawn { (b : ℕ) → parts_held seat.old ≡ all_parts → HasDrawn wave b seat.old → HasDrawn wave (b + 1) seat.new }
+    ensures worked { result ≡ false → parts_held seat.old ≡ all_parts → HasWorked table.now wave seat.new }
+    ensures known { result ≡ false → parts_held seat.old ≡ all_parts → HasDrawnBelow (net_of table.now.plan) wave seat.old → KnowsTo (wave + 1) seat.new }
 {
     let blocks = table.block_count(wave);
     let block = table.claim(seat, wave);

@@ -1,7 +1,8 @@
 //! A whole table, worked by one seat or by several workers.
 ghost use Rattle.std.specs.Prelude.{◌≡◌, ◌+◌, ◌*◌, ◌≤◌, [], length, IfOk};
+ghost use Rattle.drt_lock.specs.Rule.{all_parts};
 ghost use Rattle.drt_model.specs.Digraph.{vertex_count};
-ghost use Rattle.drt_wave.specs.Cells.{net_of, IsWavePlan};
+ghost use Rattle.drt_wave.specs.Cells.{net_of, IsWavePlan, most_cells};
 ghost use Rattle.drt_wave.specs.Seats.{parts_held, draws_of, KnowsTo, IsOfTable};
 ghost use Rattle.drt_wave.specs.Tables.{AreOpened};
 
@@ -24,7 +25,7 @@ use std::thread::Threads;
 // Works all waves, in order.
 fn work_all(table: &WaveTable, seat: &mut WaveSeat, count: u32)
     requires seat { IsOfTable table.now seat.old }
-    requires whole { parts_held seat.old ≡ 1024 }
+    requires whole { parts_held seat.old ≡ all_parts }
     requires count { count ≡ (net_of table.now.plan).waves }
     requires known { KnowsTo 0 seat.old }
     requires draws { draws_of seat.old ≡ [] }
@@ -38,7 +39,7 @@ fn work_all(table: &WaveTable, seat: &mut WaveSeat, count: u32)
 
 /// The greatest works of a graph's walks up to a bound in ticks: a table that one seat works to its end.
 pub fn dense_front(alloc: Global, graph: &Graph, bound: u64) -> Result<DenseFront, Memory>
-    requires small { vertex_count graph.now * (bound + 1) ≤ 4194304 }
+    requires small { vertex_count graph.now * (bound + 1) ≤ most_cells }
     ensures graph { IfOk result (λ front. front.plan.graph ≡ graph.now) }
     ensures bound { IfOk result (λ front. front.plan.bound ≡ bound) }
 {
@@ -76,7 +77,7 @@ pub fn fill<G: Gate, R: Threads + Wait + Sync>(
     workers: u32,
     gate: &G,
 ) -> Result<DenseFront, Memory>
-    requires small { vertex_count graph.now * (bound + 1) ≤ 4194304 }
+    requires small { vertex_count graph.now * (bound + 1) ≤ most_cells }
     requires workers { (1 ≤ workers) × (workers ≤ 16) }
     ensures graph { IfOk result (λ front. front.plan.graph ≡ graph.now) }
     ensures bound { IfOk result (λ front. front.plan.bound ≡ bound) }

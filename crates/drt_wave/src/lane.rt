@@ -1,5 +1,6 @@
 //! The cells of one vertex, one for each offset, on words that threads share without a lock.
 ghost use Rattle.std.specs.Prelude.{◌≡◌, ℕ, ◌+◌, ◌<◌, ◌≤◌, length, slice_index, IfOk};
+ghost use Rattle.drt_lock.specs.Rule.{all_parts};
 ghost use Rattle.drt_model.specs.Digraph.{vertex_count};
 ghost use Rattle.drt_wave.specs.Net.{Reached};
 ghost use Rattle.drt_wave.specs.Cells.{IsWavePlan, width};
@@ -46,7 +47,7 @@ impl Lane {
         ensures zeros { (k : ℕ) → 0 < k → slice_index words.new k ≡ 0 }
         ensures lane { IfOk result (λ r. IsLane plan.now vertex r.0) }
         ensures seat { IfOk result (λ r. IsLaneSeat r.0 r.1) }
-        ensures fresh { IfOk result (λ r. r.1.me.0 ≡ fresh_lane r.0.table.shared.key 1024) }
+        ensures fresh { IfOk result (λ r. r.1.me.0 ≡ fresh_lane r.0.table.shared.key all_parts) }
     {
         let task_vertex = plan.graph.vertex(vertex);
         words[0] = if task_vertex.deadline as u64 <= plan.bound {

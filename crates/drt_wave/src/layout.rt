@@ -1,6 +1,6 @@
 //! Where the cells of a wave stand.
 ghost use Rattle.std.specs.Prelude.{◌≡◌, ℕ, ◌*◌, ◌<◌, ◌≤◌};
-ghost use Rattle.drt_wave.specs.Cells.{net_of, offsets};
+ghost use Rattle.drt_wave.specs.Cells.{net_of, offsets, most_cells};
 
 use crate::table::WaveTable;
 
@@ -22,9 +22,9 @@ impl WaveTable {
         requires wave { wave < (net_of self.now.plan).waves }
         ensures value { result ≡ offsets self.now.plan wave }
         ensures some { 0 < result }
-        ensures few { result ≤ 4194304 }
+        ensures few { result ≤ most_cells }
         ensures first { wave * self.now.plan.span ≤ self.now.plan.bound }
-        ensures bound { self.now.plan.bound < 4194304 }
+        ensures bound { self.now.plan.bound < most_cells }
     {
         let first = self.first_offset(wave);
         self.plan.span.min(self.plan.width() - first)
@@ -34,7 +34,7 @@ impl WaveTable {
     pub(crate) fn wave_size(&self, wave: u32) -> u64
         requires wave { wave < (net_of self.now.plan).waves }
         ensures value { result ≡ (net_of self.now.plan).size wave }
-        ensures small { result ≤ 4194304 }
+        ensures small { result ≤ most_cells }
     {
         self.plan.graph.vertex_count() as u64 * self.offsets(wave)
     }
@@ -52,7 +52,7 @@ impl WaveTable {
     /// How many cells a wave and those after it have.
     pub(crate) fn cells_from(&self, wave: u32) -> u64
         requires wave { wave < (net_of self.now.plan).waves }
-        ensures { result ≤ 4194304 }
+        ensures { result ≤ most_cells }
     {
         self.plan.graph.vertex_count() as u64 * (self.plan.width() - self.first_offset(wave))
     }

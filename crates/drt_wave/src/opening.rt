@@ -1,5 +1,6 @@
 //! The lanes of a table at its start, opened one after another or side by side.
 ghost use Rattle.std.specs.Prelude.{◌≡◌, ◌<◌, ◌≤◌, length, IfOk};
+ghost use Rattle.drt_lock.specs.Rule.{all_parts};
 ghost use Rattle.drt_model.specs.Digraph.{vertex_count};
 ghost use Rattle.drt_pool.specs.Turns.{EachPlace};
 ghost use Rattle.drt_wave.specs.Cells.{IsWavePlan};
@@ -90,7 +91,7 @@ impl Opener {
         ensures opener { IsOpener plan.now self.new }
         ensures lane { IfOk result (λ r. IsLane plan.now vertex r.0) }
         ensures seat { IfOk result (λ r. IsLaneSeat r.0 r.1) }
-        ensures fresh { IfOk result (λ r. r.1.me.0 ≡ fresh_lane r.0.table.shared.key 1024) }
+        ensures fresh { IfOk result (λ r. r.1.me.0 ≡ fresh_lane r.0.table.shared.key all_parts) }
     {
         if self.words.is_empty() {
             self.words = vec![in alloc; 0u64; plan.width() as usize]?;
@@ -122,7 +123,7 @@ impl Opener {
         ensures opener { IsOpener plan.now self.new }
         ensures lane { IfOk result (λ r. IsLane plan.now vertex r.0) }
         ensures seat { IfOk result (λ r. IsLaneSeat r.0 r.1) }
-        ensures fresh { IfOk result (λ r. r.1.me.0 ≡ fresh_lane r.0.table.shared.key 1024) }
+        ensures fresh { IfOk result (λ r. r.1.me.0 ≡ fresh_lane r.0.table.shared.key all_parts) }
     {
         match self.places[vertex as usize].take() {
             Some(opened) => Ok(opened),

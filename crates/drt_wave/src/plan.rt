@@ -1,7 +1,7 @@
 //! What a table is of.
 ghost use Rattle.std.specs.Prelude.{◌≡◌, ℕ, ◌+◌, ◌*◌, ◌<◌, ◌≤◌, IfOk};
 ghost use Rattle.drt_model.specs.Digraph.{IsSoundGraph, vertex_count, out_degree, edge_of};
-ghost use Rattle.drt_wave.specs.Cells.{IsWavePlan, net_of, width};
+ghost use Rattle.drt_wave.specs.Cells.{IsWavePlan, net_of, width, most_cells};
 
 use drt_graph::Graph;
 use drt_model::Memory;
@@ -59,7 +59,7 @@ fn least_separation(graph: &Graph, most: u64) -> u64
 
 /// The plan of a table of a graph up to a bound.
 pub(crate) fn make_plan(alloc: Global, graph: &Graph, bound: u64) -> Result<Plan, Memory>
-    requires small { vertex_count graph.now * (bound + 1) ≤ 4194304 }
+    requires small { vertex_count graph.now * (bound + 1) ≤ most_cells }
     ensures graph { IfOk result (λ plan. plan.graph ≡ graph.now) }
     ensures bound { IfOk result (λ plan. plan.bound ≡ bound) }
     ensures planned { IfOk result (λ plan. IsWavePlan plan) }
@@ -73,7 +73,7 @@ pub(crate) fn make_plan(alloc: Global, graph: &Graph, bound: u64) -> Result<Plan
 impl Plan {
     /// How many offsets there are.
     pub(crate) fn width(&self) -> u64
-        requires small { vertex_count self.now.graph * (self.now.bound + 1) ≤ 4194304 }
+        requires small { vertex_count self.now.graph * (self.now.bound + 1) ≤ most_cells }
         ensures { result ≡ width self.now }
     {
         keeps_its_bounds(&self.graph);
@@ -90,7 +90,7 @@ impl Plan {
 
     /// How many cells there are.
     pub(crate) fn cell_count(&self) -> u64
-        requires small { vertex_count self.now.graph * (self.now.bound + 1) ≤ 4194304 }
+        requires small { vertex_count self.now.graph * (self.now.bound + 1) ≤ most_cells }
         ensures { result ≡ vertex_count self.now.graph * (self.now.bound + 1) }
     {
         self.graph.vertex_count() as u64 * self.width()

@@ -1,5 +1,6 @@
 //! Tables that several workers share.
 ghost use Rattle.std.specs.Prelude.{◌≡◌, ◌+◌, ◌<◌, ◌≤◌, [], length, vec_capacity, IfOk, IfSome, None};
+ghost use Rattle.drt_lock.specs.Rule.{all_parts};
 ghost use Rattle.drt_lock.specs.Seats.{Rests};
 ghost use Rattle.drt_pool.specs.Turns.{EachPlace};
 ghost use Rattle.drt_wave.specs.Cells.{net_of};
@@ -47,10 +48,10 @@ fn deal<'a>(
     count: u32,
 ) -> Result<(), Memory>
     requires name { owner.old.table_id ≡ lock.now.name }
-    requires owner { (count ≤ 16) × Rests lock.now.fixed 1024 0 owner.old.me }
+    requires owner { (count ≤ 16) × Rests lock.now.fixed all_parts 0 owner.old.me }
     requires room { (hands.old.items ≡ []) × (count ≤ vec_capacity hands.old) }
     ensures name { IfOk result (λ u. owner.new.table_id ≡ lock.now.name) }
-    ensures owner { IfOk result (λ u. (owner.new.me.0.parts + count ≡ 1024) × Rests lock.now.fixed owner.new.me.0.parts 0 owner.new.me) }
+    ensures owner { IfOk result (λ u. (owner.new.me.0.parts + count ≡ all_parts) × Rests lock.now.fixed owner.new.me.0.parts 0 owner.new.me) }
     ensures count { IfOk result (λ u. length hands.new.items ≡ count) }
     ensures each { IfOk result (λ u. EachPlace (λ place hand. (hand.lock_seat.table_id ≡ lock.now.name) × Rests lock.now.fixed 1 0 hand.lock_seat.me
         × (hand.held ≡ None) × IfSome hand.room (λ room. HasRoomForLanes table.now room)) hands.new.items) }
@@ -71,7 +72,7 @@ fn deal<'a>(
 // Takes the parts of the hands together, and has the desk again.
 fn gather<'a>(lock: Lock<Desk<'a>>, owner: LockSeat<'a>, hands: Vec<Hand<'a>>) -> Desk<'a>
     requires name { owner.table_id ≡ lock.name }
-    requires owner { (0 < owner.me.0.parts) × (owner.me.0.parts + length hands.items ≡ 1024) × Rests lock.fixed owner.me.0.parts 0 owner.me }
+    requires owner { (0 < owner.me.0.parts) × (owner.me.0.parts + length hands.items ≡ all_parts) × Rests lock.fixed owner.me.0.parts 0 owner.me }
     requires each { EachPlace (λ place hand. (hand.lock_seat.table_id ≡ lock.name) × Rests lock.fixed 1 0 hand.lock_seat.me) hands.items }
     ensures { result ≡ lock.entry.fixed }
 {
@@ -121,7 +122,7 @@ pub(crate) fn share_table<G: Gate, R: Threads + Wait + Sync>(
     crew: Crew,
     gate: &G,
 ) -> Result<Option<WaveSeat>, Memory>
-    requires owner { IsAtWork table.now 0 1024 owner }
+    requires owner { IsAtWork table.now 0 all_parts owner }
     requires draws { draws_of owner ≡ [] }
     requires crew { (1 ≤ crew.count) × (crew.count ≤ 16) }
     ensures seat { IfOk result (λ o. IfSome o (λ seat. IsOfTable table.now seat)) }

@@ -1,8 +1,9 @@
 //! The table. Each step is taken by a seat, and none waits.
 ghost use Rattle.std.specs.Prelude.{◌≡◌, ◌≢◌, ℕ, ◌+◌, ◌*◌, ◌/◌, ◌<◌, ◌≤◌, ◌⊎◌, [], length, IfOk, IfErr};
+ghost use Rattle.drt_lock.specs.Rule.{all_parts};
 ghost use Rattle.drt_model.specs.Digraph.{vertex_count};
 ghost use Rattle.drt_wave.specs.Net.{Reached, IsGreatestReaching};
-ghost use Rattle.drt_wave.specs.Cells.{net_of, cell_at, IsWavePlan};
+ghost use Rattle.drt_wave.specs.Cells.{net_of, cell_at, IsWavePlan, most_cells};
 ghost use Rattle.drt_wave.specs.Tables.{AreLanes, AreOpened};
 ghost use Rattle.drt_wave.specs.Ways.{AreWays};
 
@@ -40,11 +41,11 @@ impl WaveTable {
 
     /// A table of the graph's walks up to a bound in ticks, with the seat that has every part.
     pub fn start(alloc: Global, graph: &Graph, bound: u64) -> Result<(WaveTable, WaveSeat), Memory>
-        requires small { vertex_count graph.now * (bound + 1) ≤ 4194304 }
+        requires small { vertex_count graph.now * (bound + 1) ≤ most_cells }
         ensures graph { IfOk result (λ r. r.0.plan.graph ≡ graph.now) }
         ensures bound { IfOk result (λ r. r.0.plan.bound ≡ bound) }
         ensures seat { IfOk result (λ r. IsOfTable r.0 r.1) }
-        ensures parts { IfOk result (λ r. parts_held r.1 ≡ 1024) }
+        ensures parts { IfOk result (λ r. parts_held r.1 ≡ all_parts) }
         ensures draws { IfOk result (λ r. draws_of r.1 ≡ []) }
         ensures raised { IfOk result (λ r. (v o x : ℕ) → HasRaised r.1 v o x → ⊥) }
         ensures known { IfOk result (λ r. KnowsTo 0 r.1) }
@@ -66,7 +67,7 @@ impl WaveTable {
         requires opened { AreOpened plan 0 lanes.items seats.items }
         ensures plan { IfOk result (λ r. r.0.plan ≡ plan) }
         ensures seat { IfOk result (λ r. IsOfTable r.0 r.1) }
-        ensures parts { IfOk result (λ r. parts_held r.1 ≡ 1024) }
+        ensures parts { IfOk result (λ r. parts_held r.1 ≡ all_parts) }
         ensures draws { IfOk result (λ r. draws_of r.1 ≡ []) }
         ensures raised { IfOk result (λ r. (v o x : ℕ) → HasRaised r.1 v o x → ⊥) }
         ensures known { IfOk result (λ r. KnowsTo 0 r.1) }

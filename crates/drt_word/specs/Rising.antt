@@ -1,6 +1,7 @@
 -- The rule of a word that only rises. HoldsOfEach view has the numbers that its seat put into the word, the values that it found there,
 -- and its parts.
 use Rattle.std.specs.Prelude.{◌≡◌, ℕ, ◌+◌, ◌-◌, ◌≤◌, ◌⊎◌, List, [], ◌∷◌, ◌++◌, length, slice_index}
+use Rattle.drt_lock.specs.Rule.{all_parts}
 use mathlib.Core.Option.{some}
 use lib.ListN.{get_elem?}
 use Rattle.atomic_table.specs.Table.{State, Me, Step}
@@ -63,7 +64,7 @@ IsRaisedIn word views = (i : ℕ) × (v : View) × (get_elem? views i ≡ some v
 -- The word is 0 or the greatest number that any view raised, and the parts of all views add up to 1024.
 pub record IsRisen {S : Type 0} (P : ℕ → Type 0) (s : State S View) : Type 0 where
   pub wide : length s.words ≡ 1
-  pub parts : total_parts s.views ≡ 1024
+  pub parts : total_parts s.views ≡ all_parts
   pub each : (i : ℕ) (v : View) → get_elem? s.views i ≡ some v → Knows P (slice_index s.words 0) v
   pub top : (slice_index s.words 0 ≡ 0) ⊎ IsRaisedIn (slice_index s.words 0) s.views
 

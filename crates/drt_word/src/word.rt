@@ -1,6 +1,7 @@
 //! The word. Each step is taken by a seat.
 
 ghost use Rattle.std.specs.Prelude.{◌≡◌, ℕ, ◌<◌, ◌≤◌, [], IfOk};
+ghost use Rattle.drt_lock.specs.Rule.{all_parts};
 ghost use Rattle.drt_word.specs.Rising.{HoldsOfEach, fresh_view, split_left, split_right, joined_views, with_raised, with_noted};
 ghost use Rattle.drt_word.specs.Closing.{IsWordClosed};
 
@@ -36,7 +37,7 @@ impl<S: Meaning> Word<S> {
     pub fn new(alloc: Global, about: Snapshot<S>) -> Result<(Word<S>, Seat<(), View>), Memory>
         ensures about { IfOk result (λ r. r.0.about ≡ about.value) }
         ensures name { IfOk result (λ r. r.1.table_id ≡ r.0.name) }
-        ensures seat { IfOk result (λ r. r.1.me ≡ (fresh_view 1024, [])) }
+        ensures seat { IfOk result (λ r. r.1.me ≡ (fresh_view all_parts, [])) }
     {
         let (table, seat) = Table::of_words(alloc, &[0], &about)?;
         Ok((Word { table }, seat))
@@ -91,7 +92,7 @@ impl<S: Meaning> Word<S> {
     /// was reached, and no number that was noted is above it.
     pub fn close(self, seat: Seat<(), View>) -> u64
         requires name { seat.table_id ≡ self.name }
-        requires parts { seat.me.0.parts ≡ 1024 }
+        requires parts { seat.me.0.parts ≡ all_parts }
         ensures { IsWordClosed (S.is_reached self.about) result seat.me.0 }
     {
         let Word { table } = self;

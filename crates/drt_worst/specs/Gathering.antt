@@ -1,5 +1,6 @@
 -- While passes are opened and taken in.
 use Rattle.std.specs.Prelude.{◌≡◌, ℕ, ◌+◌, List, ◌++◌, length, Some, slice_get}
+use Rattle.drt_lock.specs.Rule.{all_parts}
 use Rattle.drt_word.specs.declared.view.View.{View}
 use Rattle.drt_word.specs.Closing.{WordOf}
 use Rattle.drt_worst.specs.Passing.{search_of_question, IsGreatestRaised, IsNotedIn}
@@ -8,7 +9,7 @@ use Rattle.drt_worst.specs.declared.pass.Question.{Question}
 
 -- Some passes are left, and what the others knew is in the view.
 pub record IsGathered (word : WordOf Question) (all left : List Pass) (best : ℕ) (leaves : List ℕ) (v : View) : Type 0 where
-  pub parts : v.parts + length left ≡ 1024
+  pub parts : v.parts + length left ≡ all_parts
   pub done : List Pass
   pub split : all ≡ left ++ done
   pub known : (i : ℕ) (p : Pass) → slice_get done i ≡ Some p → IsNotedIn p.known v

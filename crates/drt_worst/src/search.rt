@@ -1,6 +1,7 @@
 //! The greatest least time over all tuples below some roots.
 ghost use Rattle.std.specs.Prelude.{◌≡◌, ◌≢◌, ℕ, ◌+◌, ◌-◌, ◌<◌, ◌≤◌, List, [], Some, length, slice_get, false, true, IfOk, IfSome, IfNone, IsSome, option_map, vec_len};
 ghost use Rattle.std.specs.Result.{OnOk};
+ghost use Rattle.drt_lock.specs.Rule.{all_parts};
 ghost use Rattle.drt_model.specs.Limits.{most_time};
 ghost use Rattle.drt_tree.specs.Tree.{IsForest};
 ghost use Rattle.drt_refine.specs.Below.{AreBelow, AreNodes};
@@ -154,11 +155,11 @@ fn open_all(
     told: bool,
 ) -> Result<Vec<Pass>, Memory>
     requires name { owner.old.table_id ≡ word.now.name }
-    requires owner { owner.old.me ≡ (fresh_view 1024, []) }
+    requires owner { owner.old.me ≡ (fresh_view all_parts, []) }
     requires few { length dealt.now ≤ 16 }
     requires parts { AreParts (search_of_question word.now.about).forest word.now.about.roots.value dealt.now }
     ensures name { owner.new.table_id ≡ owner.old.table_id }
-    ensures owner { IfOk result (λ ps. owner.new.me.0 ≡ fresh_view (1024 - length dealt.now)) }
+    ensures owner { IfOk result (λ ps. owner.new.me.0 ≡ fresh_view (all_parts - length dealt.now)) }
     ensures passes { IfOk result (λ ps. (length ps.items ≡ length dealt.now) × EachPlace (IsPassOpened word.now dealt.now told) ps.items) }
 {
     let mut passes = Vec::new(alloc);
@@ -203,12 +204,12 @@ fn absorb_all(
     mut passes: Vec<Pass>,
 )
     requires name { owner.old.table_id ≡ word.now.name }
-    requires owner { owner.old.me.0 ≡ fresh_view (1024 - length passes.items) }
+    requires owner { owner.old.me.0 ≡ fresh_view (all_parts - length passes.items) }
     requires few { length passes.items ≤ 16 }
     requires best { best.old ≡ 0 }
     requires passes { EachPlace (IsDoneOf word.now) passes.items }
     ensures name { owner.new.table_id ≡ owner.old.table_id }
-    ensures parts { owner.new.me.0.parts ≡ 1024 }
+    ensures parts { owner.new.me.0.parts ≡ all_parts }
     ensures best { IsGreatestRaised (search_of_question word.now.about) word.now.about.roots.value best.new leaves.new owner.new.me.0 }
     ensures known { (i : ℕ) (p : Pass) → slice_get passes.items i ≡ Some p → IsNotedIn p.known owner.new.me.0 }
 {
@@ -225,7 +226,7 @@ fn gather(
     passes: Vec<Pass>,
 ) -> Worst
     requires name { owner.table_id ≡ word.name }
-    requires owner { owner.me.0 ≡ fresh_view (1024 - length passes.items) }
+    requires owner { owner.me.0 ≡ fresh_view (all_parts - length passes.items) }
     requires few { length passes.items ≤ 16 }
     requires ready { IsSearchReady (search_of_question word.about) word.about.roots.value }
     requires passes { EachPlace (IsDoneOf word) passes.items }
@@ -263,7 +264,7 @@ fn finish(
     budget: u64,
 ) -> Result<Option<Worst>, Memory>
     requires name { owner.table_id ≡ word.name }
-    requires owner { owner.me.0 ≡ fresh_view (1024 - length passes.items) }
+    requires owner { owner.me.0 ≡ fresh_view (all_parts - length passes.items) }
     requires few { length passes.items ≤ 16 }
     requires ready { IsSearchReady (search_of_question word.about) word.about.roots.value }
     requires passes { EachPlace (IsHaltedOf word budget) passes.items }

@@ -1,5 +1,6 @@
 //! A tree in the forest, and the same tree as a claim.
 ghost use Rattle.std.specs.Prelude.{◌≡◌, ℕ, ◌+◌, ◌-◌, ◌*◌, ◌≤◌, ◌<◌, IfOk, None, Some, length};
+ghost use Rattle.drt_model.specs.Limits.{most_number};
 ghost use Rattle.drt_tree.specs.Leaf.{leaves_of};
 ghost use Rattle.drt_tree.specs.Shape.{IsTreeAdded};
 ghost use Rattle.drt_tree.specs.Tree.{HaveOneBound, IsForest, children};
@@ -16,7 +17,7 @@ use std::sync::Arc;
 // The walks of so many leaves from `low` on.
 fn walks_from(alloc: Global, forest: &Forest, low: u32, count: u32) -> Result<Row<Row<u32>>, Memory>
     requires within { low + count ≤ length forest.now.nodes }
-    requires room { low + count ≤ 4294967295 }
+    requires room { low + count ≤ most_number }
     requires leaves { (k : ℕ) → low ≤ k → k < low + count → children forest.now k ≡ None }
     ensures { IfOk result (λ walks. walks ≡ walks_from forest.now low count) }
 {
@@ -52,7 +53,7 @@ fn pairs_from(
     count: u32,
 ) -> Result<Row<Pair>, Memory>
     requires within { first + count ≤ length forest.now.nodes }
-    requires room { first + count ≤ 4294967295 }
+    requires room { first + count ≤ most_number }
     requires children { (k : ℕ) → first ≤ k → k < first + count → (l : ℕ) × (r : ℕ) × (children forest.now k ≡ Some (l, r)) × (low ≤ l) × (low ≤ r) }
     ensures { IfOk result (λ pairs. pairs ≡ pairs_from forest.now low first count) }
 {
@@ -73,7 +74,7 @@ pub(crate) fn add_tree(
     requires same { length labels.now ≡ length walks.now }
     requires some { 1 ≤ length labels.now }
     requires bound { HaveOneBound forest.old.pool (leaves_of labels.now walks.now) }
-    requires room { length forest.old.nodes + 2 * length labels.now ≤ 4294967295 }
+    requires room { length forest.old.nodes + 2 * length labels.now ≤ most_number }
     ensures forest { IsForest forest.old }
     ensures added { IfOk result (λ tree. IsTreeAdded forest.old forest.new (leaves_of labels.now walks.now) tree.top) }
     ensures low { IfOk result (λ tree. tree.low ≡ length forest.old.nodes) }

@@ -1,5 +1,6 @@
 use Rattle.std.proofs.Common.{ℕ, ◌+◌, ◌*◌, ◌≤◌, arith}
 use Rattle.std.proofs.lemmas.Nat.{mul-le}
+use Rattle.drt_wave.specs.Cells.{most_cells}
 use Rattle.drt_fronts.proofs.Bounded.{most_of}
 use Rattle.drt_fronts.proofs.waves.has_wave_table.Goals as goal
 
@@ -16,6 +17,6 @@ pub overflow_mul-result : goal.overflow_mul-result
 overflow_mul-result c =
     let most = few c in
     let cells : ℕ = c.from.result * (c.args.bound + 1) in
-    let small : cells ≤ 4194304 = omega (arith, c.if-cells-gt-MOST_CELLS.false) in
-    let product = mul-le cells (c.greatest_degree.result + 2) 4194304 258 small (omega (arith, most)) in
+    let small : cells ≤ most_cells = omega (arith, c.if-cells-gt-MOST_CELLS.false) in
+    let product = mul-le cells (c.greatest_degree.result + 2) most_cells 258 small (omega (arith, most)) in
     record { fits = omega (arith, product) }
