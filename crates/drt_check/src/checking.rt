@@ -29,7 +29,7 @@ pub fn check(alloc: Global, dossier: &Dossier) -> Result<Judgement, Memory>
     if is_undecided(dossier) {
         return Ok(Judgement::NothingToCheck);
     }
-    let _tasks = dossier.set.tasks();
+    dossier.set.keep_limits();
     accepted_is_sound();
     match first_broken(alloc, dossier)? {
         Some(rule) => Ok(Judgement::Rejected {

@@ -69,7 +69,7 @@ fn is_extended_by(
     requires edge { k < out_degree graph.now entry.vertex }
     ensures { IsTrue result ↔ IsExtended bound graph.now front.now entry k }
 {
-    let _count = graph.vertex_count();
+    graph.keep_limits();
     let edge = graph.out_edge(entry.vertex, k);
     let target = graph.vertex(edge.to);
     let offset = entry.offset + edge.sep as u64;

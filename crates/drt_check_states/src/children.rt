@@ -175,7 +175,7 @@ fn moves_on(
     requires cut { IsEntryCut from.place state.now.entries cut }
     ensures { IsTrue result ↔ AllZip (NamesAbove states.now) (children_of graph.now deadline state.now from.place (Some from)) numbers.now }
 {
-    let _count = graph.vertex_count();
+    graph.keep_limits();
     let work = graph.vertex(from.vertex).wcet;
     let mut next = 0;
     for k in 0..graph.out_degree(from.vertex) {

@@ -79,7 +79,7 @@ fn is_above_edge(graph: &Graph, bound: u32, tail: &TailClaim, u: u32, k: u32) ->
     requires edge { k < out_degree graph.now u }
     ensures { IsTrue result ↔ All (IsAboveJump bound graph.now tail.now u k) (curve_of tail.now (edge_of graph.now u k).to) }
 {
-    let _count = graph.vertex_count();
+    graph.keep_limits();
     let wcet = graph.vertex(u).wcet;
     let edge = *graph.out_edge(u, k);
     let own = curve(graph, bound, tail, u);

@@ -30,7 +30,7 @@ pub(crate) fn measure(graph: &Graph, gaps: &[u32], walk: &[u32]) -> Extent
     ensures work { result.work ≡ work graph.now walk.now }
     ensures few { result.work ≤ 1000000000000 }
 {
-    let _count = graph.vertex_count();
+    graph.keep_limits();
     let mut span = 0;
     let mut work = 0;
     for i in 0..walk.len() {
@@ -54,7 +54,7 @@ pub(crate) fn asks_no_less(
     requires other { AreWalkVertices graph.now other.now }
     ensures { IsTrue result ↔ AsksNoLess bound graph.now other.now walk.now }
 {
-    let _count = graph.vertex_count();
+    graph.keep_limits();
     let mut cursor = Cursor {
         place: 0,
         offset: 0,
@@ -85,7 +85,7 @@ fn advance(graph: &Graph, gaps: &[u32], walk: &[u32], from: Cursor, offset: u64)
     ensures same { (t : ℕ) → offset < t → asked_at graph.now walk.now result t ≡ asked_at graph.now walk.now from t }
     ensures past { result.place < length walk.now → offset < result.offset }
 {
-    let _count = graph.vertex_count();
+    graph.keep_limits();
     let mut cursor = from;
     while cursor.place < walk.len() && cursor.offset <= offset {
         cursor = Cursor {

@@ -169,7 +169,7 @@ fn is_closed(
     requires walk { IsShortWalk bound graph.now walk.now }
     ensures { IfOk result (λ closed. IsTrue closed ↔ IsClosedWalk bound graph.now tree.now walk.now) }
 {
-    let _count = graph.vertex_count();
+    graph.keep_limits();
     let last = last_in(walk);
     let extent = measure(graph, gaps, walk);
     for k in 0..graph.out_degree(last) {
@@ -205,7 +205,7 @@ fn is_extended(
     requires edge { k < out_degree graph.now (last_in walk.now) }
     ensures { IfOk result (λ is. IsTrue is ↔ IsExtendedBy bound graph.now tree.now walk.now k) }
 {
-    let _count = graph.vertex_count();
+    graph.keep_limits();
     let edge = *graph.out_edge(last_in(walk), k);
     let span = extent.span + edge.sep as u64;
     if span >= bound as u64 {

@@ -156,7 +156,7 @@ fn entry_of(graph: &Graph, gaps: &[u32], bound: u32, walk: &[u32], number: usize
     ensures span { result.span ≡ span_of graph.now walk.now }
     ensures digest { result.digest < 4294967296 }
 {
-    let _count = graph.vertex_count();
+    graph.keep_limits();
     let extent = measure(graph, gaps, walk);
     Entry {
         rank: rank_of(last_in(walk), extent.work),
@@ -172,7 +172,7 @@ fn digest_of(graph: &Graph, gaps: &[u32], walk: &[u32]) -> u32
     requires within { AreWalkVertices graph.now walk.now }
     ensures { result < 4294967296 }
 {
-    let _count = graph.vertex_count();
+    graph.keep_limits();
     let mut digest = 2166136261;
     for i in 0..walk.len() {
         let gap = next_offset(graph, gaps, walk, i, 0) as u32;
@@ -215,7 +215,7 @@ fn is_no_less(
     requires other { IsShortWalk bound graph.now other.now }
     ensures { IsTrue result ↔ (entry.span ≤ span) × AsksNoLess bound graph.now other.now (slice_index_or walks.now entry.number []) }
 {
-    let _count = graph.vertex_count();
+    graph.keep_limits();
     if entry.span as u64 > span {
         return false;
     }
@@ -276,7 +276,7 @@ pub(crate) fn has_above(
     requires work { extent.work ≡ work graph.now walk.now }
     ensures { IsTrue result ↔ Any (IsWalkOver bound graph.now walk.now) walks.now }
 {
-    let _count = graph.vertex_count();
+    graph.keep_limits();
     let last = last_in(walk);
     let span = extent.span;
     if is_over_at(

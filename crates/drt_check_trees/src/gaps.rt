@@ -49,7 +49,7 @@ pub(crate) fn next_offset(
     ensures value { result ≡ offset + leap graph.now walk.now place }
     ensures most { result ≤ offset + most_time }
 {
-    let _count = graph.vertex_count();
+    graph.keep_limits();
     if place + 1 == walk.len() {
         return offset;
     }

@@ -39,7 +39,7 @@ pub fn take_values(
     ensures left { IfOk result (λ fit. IsTrue fit → AreLeft (query_values graph.now tree.now queries.now) rooms.old rooms.new) }
     ensures count { length rooms.new ≡ length rooms.old }
 {
-    keep_limits(graph);
+    graph.keep_limits();
     let places = places_of(alloc, tree)?;
     let mut rises = rises_of(alloc, graph, tree, bound, places.firsts.as_slice())?;
     put_in_order(&mut rises);
@@ -55,11 +55,4 @@ pub fn take_values(
         rooms,
     )?;
     Ok(fit)
-}
-
-// A graph keeps the limits. Nothing is to be done for it.
-fn keep_limits(graph: &Graph)
-    ensures { IsSoundGraph graph.now }
-{
-    let _count = graph.vertex_count();
 }

@@ -106,7 +106,7 @@ fn spot_in(set: &TaskSet, command: &Margin) -> Option<Question>
     ensures { MatchOption result (NamesNone command.now.task command.now.vertex set.now.tasks) (IsSpotOf set.now command.now) }
 {
     let (task, vertex) = spot_of(set, command.task.as_slice(), command.vertex.as_slice())?;
-    keep_limits(set);
+    set.keep_limits();
     let policy = if command.fixed {
         Policy::Fixed
     } else {
@@ -117,13 +117,6 @@ fn spot_in(set: &TaskSet, command: &Margin) -> Option<Question>
         task: task as u32,
         vertex: vertex as u32,
     })
-}
-
-// Does nothing: a set keeps its limits.
-fn keep_limits(set: &TaskSet)
-    ensures { IsTaskSet set.now.version set.now.tasks }
-{
-    let _version = set.version();
 }
 
 // The answer about the vertex of an accepted set.

@@ -29,7 +29,7 @@ pub(crate) fn above_one(
 {
     search_ends();
     let graphs = set.graphs();
-    let _count = graphs.count();
+    graphs.keep_limits();
     match overload(graphs, proofs, effort.budget()) {
         Over::Found(t) => {
             let evidence = overload_refusal(alloc, set, proofs, t)?;

@@ -33,7 +33,7 @@ pub fn analyse_edf<G: Gate, R: Threads + Wait + Sync>(
 {
     let graphs = set.graphs();
     let proofs = ratios(crew.alloc, graphs)?;
-    let _count = graphs.count();
+    graphs.keep_limits();
     match plan(graphs, proofs.as_slice()) {
         Ok(Horizon::Under { bound }) => below_one(crew, set, proofs, bound),
         Ok(Horizon::One) => Ok(EdfAnswer::Done(Evidence::UtilisationOne {

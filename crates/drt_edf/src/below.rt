@@ -64,7 +64,7 @@ fn scanned(
     deadlines_decide();
     set.keep_limits();
     let graphs = set.graphs();
-    let _count = graphs.count();
+    graphs.keep_limits();
     match scan(alloc, graphs, fronts.as_slice(), bound)? {
         None => Ok(Evidence::EdfYes {
             ratios: claims_of(alloc, proofs)?,

@@ -38,7 +38,7 @@ pub(crate) fn refusal(
     releases_are_in_range();
     set.keep_limits();
     let graphs = set.graphs();
-    let _count = graphs.count();
+    graphs.keep_limits();
     let releases = all_releases(alloc, graphs, walks, t)?;
     // So many releases would take more than 100 GB.
     if releases.len() > 4294967295 {

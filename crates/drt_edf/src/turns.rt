@@ -36,7 +36,7 @@ fn turns_of(alloc: Global, graph: &Graph, cycle: &[u32], t: u64) -> Result<Row<u
     requires { 0 < length cycle.now → IsCycle graph.now cycle.now }
     ensures { IfOk result (λ walk. walk ≡ turns_of graph.now t cycle.now) }
 {
-    let _count = graph.vertex_count();
+    graph.keep_limits();
     if cycle.is_empty() {
         return Ok(Row::from_vec(Vec::new(alloc)));
     }

@@ -25,7 +25,7 @@ pub fn merged_front(
     ensures front { IfOk result (λ r. IfSome r (IsLabelFront graph.now bound)) }
     ensures counted { IfOk result (λ r. IfSome r IsCounted) }
 {
-    let _count = graph.vertex_count();
+    graph.keep_limits();
     let patience = Patience::WhileHopeful;
     let merged = drt_merge::merged_front(alloc, graph, bound, budget, patience)?;
     Ok(merged)

@@ -117,7 +117,7 @@ fn walk_to(
     requires entry { Contains front.now last }
     ensures { IfOk result (λ walk. IsDemandWalkTo graph.now last walk) }
 {
-    let _count = graph.vertex_count();
+    graph.keep_limits();
     let mut walk = Vec::new(alloc);
     let mut entry = last;
     walk.push(entry.vertex)?;
@@ -141,7 +141,7 @@ pub fn demand_walk(
     requires front { (bound : ℕ) × IsLabelFront graph.now bound front.now }
     ensures { IfOk result (λ walk. IsDemandWalk graph.now front.now t walk) }
 {
-    let _count = graph.vertex_count();
+    graph.keep_limits();
     match greatest_due(graph, front, t) {
         Some(last) => walk_to(alloc, graph, front, last),
         None => Ok(Row::from_vec(Vec::new(alloc))),

@@ -55,7 +55,7 @@ pub fn wave_front<G: Gate, R: Threads + Wait + Sync>(
     ensures front { IfOk result (IsLabelFront graph.now bound) }
     ensures counted { IfOk result IsCounted }
 {
-    let _count = graph.vertex_count();
+    graph.keep_limits();
     let workers = crew.effort.workers();
     let works = fill(crew.rt, crew.alloc, graph, bound, workers, crew.gate)?;
     let front = works.front(crew.alloc)?;

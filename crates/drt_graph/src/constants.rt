@@ -27,7 +27,7 @@ fn opening(graph: &Graph, den: u64, potentials: &[i64], v: u32) -> i64
     ensures low { negsuc 9999999999999999 ≤ℤ result }
     ensures high { result ≤ℤ pos 11000000000000000 }
 {
-    let _count = graph.vertex_count();
+    graph.keep_limits();
     let work = den * graph.vertex(v).wcet as u64;
     work as i64 - potential_at(potentials, v)
 }
@@ -57,7 +57,7 @@ fn closing(graph: &Graph, num: u64, potentials: &[i64], v: u32) -> i64
     ensures low { negsuc 10999999999999999 ≤ℤ result }
     ensures high { result ≤ℤ pos most_height }
 {
-    let _count = graph.vertex_count();
+    graph.keep_limits();
     let time = num * graph.vertex(v).deadline as u64;
     potential_at(potentials, v) - time as i64
 }

@@ -45,7 +45,7 @@ fn gap_of(graph: &Graph, u: u32, v: u32) -> u32
     ensures value { result ≡ gap graph.now u v }
     ensures most { result ≤ most_time }
 {
-    let _count = graph.vertex_count();
+    graph.keep_limits();
     match separation(graph, u, v) {
         Some(gap) => gap,
         None => 0,

@@ -38,6 +38,13 @@ impl Graph {
         self.vertices.len() as u32
     }
 
+    /// Does nothing: the graph keeps its limits.
+    pub fn keep_limits(&self)
+        ensures { IsSoundGraph self.now }
+    {
+        let _count = self.vertex_count();
+    }
+
     /// The vertex of number `v`.
     pub fn vertex(&self, v: u32) -> &Vertex
         requires { v < vertex_count self.now }

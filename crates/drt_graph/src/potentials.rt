@@ -15,7 +15,7 @@ pub fn potentials_fit(graph: &Graph, num: u64, den: u64, potentials: &[i64]) -> 
     requires den { den ≤ most_term }
     ensures { IsTrue result ↔ FitPotentials graph.now num den potentials.now }
 {
-    let _count = graph.vertex_count();
+    graph.keep_limits();
     allow_all(graph, num, den, potentials)
 }
 
@@ -43,7 +43,7 @@ fn allows(graph: &Graph, num: u64, den: u64, potentials: &[i64], u: u32, k: u32)
     requires edge { k < out_degree graph.now u }
     ensures { IsTrue result ↔ Allows graph.now num den potentials.now u k }
 {
-    let _count = graph.vertex_count();
+    graph.keep_limits();
     let edge = *graph.out_edge(u, k);
     let gain = den * graph.vertex(edge.to).wcet as u64;
     let loss = num * edge.sep as u64;

@@ -20,7 +20,7 @@ pub fn cycle_turn_of(graph: &Graph, cycle: &[u32]) -> CycleTurn
     ensures work { result.work ≡ work graph.now cycle.now }
     ensures span { result.span ≡ cycle_span graph.now cycle.now }
 {
-    let _count = graph.vertex_count();
+    graph.keep_limits();
     let (work, span) = cycle_sums(graph, cycle);
     CycleTurn {
         work: work as u64,

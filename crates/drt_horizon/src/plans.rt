@@ -17,7 +17,7 @@ pub fn plan(graphs: &Graphs, proofs: &[RatioProof]) -> Result<Horizon, Beyond>
     requires { AreGiven graphs.now proofs.now }
     ensures { IsHorizonPlan graphs.now proofs.now result }
 {
-    let _count = graphs.count();
+    graphs.keep_limits();
     let Some(common) = scale::<RatioProof>(proofs) else {
         return Err(Beyond::TooFine);
     };

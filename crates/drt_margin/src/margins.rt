@@ -8,7 +8,6 @@ use crate::answer::MarginAnswer;
 use crate::asking::{Finding, ask};
 use crate::halving::halve;
 use crate::question::Question;
-use crate::times::keep_limits;
 use drt_crew::Crew;
 use drt_model::{Memory, TaskSet};
 use drt_pool::Gate;
@@ -30,7 +29,7 @@ pub fn margin<G: Gate, R: Threads + Wait + Sync>(
     ensures same { IfOk result (λ r. r.0 ≡ set) }
     ensures answer { IfOk result (λ r. IsMarginAnswer set question.policy question.task question.vertex crew.now.effort.budget r.1) }
 {
-    keep_limits(&set);
+    set.keep_limits();
     let (set, finding) = ask(crew, set, question, 0)?;
     match finding {
         Finding::Yes(evidence) => halve(crew, set, question, evidence),

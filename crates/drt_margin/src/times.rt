@@ -9,13 +9,6 @@ use drt_model::{Row, Task, TaskSet, Vertex};
 use std::alloc::Global;
 use std::mem;
 
-/// Does nothing: a set keeps its limits.
-pub(crate) fn keep_limits(set: &TaskSet)
-    ensures { IsTaskSet set.now.version set.now.tasks }
-{
-    let _version = set.version();
-}
-
 /// The execution time of this vertex of this task, in ticks.
 pub fn wcet_of(set: &TaskSet, task: u32, vertex: u32) -> u32
     requires { IsVertexOf set.now.tasks task vertex }

@@ -23,7 +23,7 @@ fn arc_of(graph: &Graph, u: u32, k: u32) -> Arc
     requires edge { k < out_degree graph.now u }
     ensures { result ≡ arc_of graph.now u k }
 {
-    let _count = graph.vertex_count();
+    graph.keep_limits();
     let edge = graph.out_edge(u, k);
     let sep = edge.sep;
     let target = edge.to;

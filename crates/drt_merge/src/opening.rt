@@ -24,7 +24,7 @@ fn open_vertex(
     ensures opened { IfOk result (λ r. IfSome r (λ steps. AreOpenedTo graph.now bound (vertex + 1) lists.new)) }
     ensures few { IfOk result (λ r. IfSome r (λ steps. steps ≤ 258)) }
 {
-    let _count = graph.vertex_count();
+    graph.keep_limits();
     let deadline = graph.vertex(vertex).deadline;
     let wcet = graph.vertex(vertex).wcet;
     if u64::from(deadline) > bound {

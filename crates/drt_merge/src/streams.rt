@@ -63,7 +63,7 @@ fn first_uncovered(graph: &Graph, bound: u64, lists: &Lists, arc: Arc, from: usi
     ensures within { result ≤ length (row lists.now arc.source) }
     ensures covered { AreCoveredFrom lists.now arc from result }
 {
-    let _count = graph.vertex_count();
+    graph.keep_limits();
     let Some(last) = lists.last(arc.target) else {
         return from;
     };
@@ -122,7 +122,7 @@ pub fn step(walks: Walks<'_>, merging: &mut Merging, k: u32) -> Result<Outcome, 
     ensures { IfOk result (λ offer. IsMerging walks.entry.graph.now walks.entry.bound walks.entry.arcs.now merging.new.lists merging.new.cursors.items) }
 {
     let Walks { graph, bound, .. } = walks;
-    let _count = graph.vertex_count();
+    graph.keep_limits();
     let arc = walks.arcs[k as usize];
     let place = merging.cursors[k as usize];
     let Some(mark) = candidate(graph, bound, &merging.lists, arc, place) else {

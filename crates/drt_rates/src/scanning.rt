@@ -20,7 +20,7 @@ fn add_front(
     requires { IsFront graph.now bound front.now }
     ensures { IfOk result (λ u. works.new.items ≡ works.old.items ++ works_from (due graph.now) (λ x. x.work) task front.now) }
 {
-    let _count = graph.vertex_count();
+    graph.keep_limits();
     'entries: for i in 0..front.len() {
         let entry = front[i];
         works.push(DueWork {
@@ -66,7 +66,7 @@ pub fn scan(
     requires fronts { AreFronts bound graphs.now fronts.now }
     ensures { IfOk result (λ found. IsLeastExcess graphs.now fronts.now bound found) }
 {
-    let _count = graphs.count();
+    graphs.keep_limits();
     let works = works(alloc, graphs, fronts, bound)?;
     Ok(first_excess(works))
 }

@@ -39,7 +39,7 @@ fn ratio_of(graph: &Graph, cycle: &[u32]) -> Ratio
     ensures span_some { 1 ≤ cycle_span graph.now cycle.now }
     ensures work_some { 1 ≤ work graph.now cycle.now }
 {
-    let _count = graph.vertex_count();
+    graph.keep_limits();
     let (work, span) = cycle_sums(graph, cycle);
     Ratio::new(work, span)
 }

@@ -28,7 +28,7 @@ fn offer(graph: &Graph, a: u64, b: u64, low: &Level, u: u32, k: u32, high: &mut 
     ensures rises { Rises high.old high.new }
     ensures done { IsRelaxed graph.now a b low.now high.new u k }
 {
-    let _count = graph.vertex_count();
+    graph.keep_limits();
     let edge = *graph.out_edge(u, k);
     let v = edge.to as usize;
     let wcet = graph.vertex(edge.to).wcet;

@@ -80,7 +80,7 @@ pub fn gaining(
     requires count { length levels.now ≡ vertex_count graph.now + 1 }
     ensures { IfOk result (λ found. MatchOption found (IsSettled levels.now (vertex_count graph.now)) (λ cycle. IsGain graph.now a b cycle.items)) }
 {
-    let _count = graph.vertex_count();
+    graph.keep_limits();
     let Some(v) = risen(graph, levels) else {
         return Ok(None);
     };

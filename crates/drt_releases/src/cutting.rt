@@ -12,7 +12,7 @@ pub fn cut_walk(alloc: Global, graph: &Graph, end: u32, walk: &[u32]) -> Result<
     requires walk { IsWalk graph.now walk.now }
     ensures { IfOk result (λ row. row ≡ cut graph.now end walk.now) }
 {
-    let _count = graph.vertex_count();
+    graph.keep_limits();
     let mut kept = Vec::new(alloc);
     if walk.is_empty() {
         return Ok(Row::from_vec(kept));

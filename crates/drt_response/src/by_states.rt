@@ -204,7 +204,7 @@ fn response_of(
     states_pass();
     response_decides();
     releases_reach();
-    let _tasks = given.set.tasks();
+    given.set.keep_limits();
     let job = FirstJob {
         at,
         finish: ticks as u32,

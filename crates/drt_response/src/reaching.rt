@@ -38,7 +38,7 @@ pub(crate) fn reaching_releases(
     ensures { IfOk result (λ releases. releases ≡ reaching set.now.tasks (placed_walk set.now.tasks walks.now) job.at.task job.at.vertex job.finish) }
 {
     let graphs = set.graphs();
-    let _count = graphs.count();
+    graphs.keep_limits();
     let chosen = job_walks(alloc, set, walks, job)?;
     let releases = all_releases(alloc, graphs, chosen.as_slice(), LAST_DEADLINE)?;
     Ok(Row::from_vec(releases))

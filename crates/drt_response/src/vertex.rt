@@ -41,7 +41,7 @@ pub(crate) fn respond_vertex<G: Gate, R: Threads + Wait + Sync>(
     leaves_respond();
     walks_pass();
     let graphs = set.graphs();
-    let _count = graphs.count();
+    graphs.keep_limits();
     let order = trees.order.as_slice();
     let higher = first_roots(trees.roots.as_slice(), place_of(order, at.task));
     let subject = graphs.graph(at.task).vertex(at.vertex);

@@ -93,18 +93,11 @@ fn extended<L: Label>(alloc: Global, graph: &Graph, label: &L, edge: u32) -> Res
     requires edge { edge < out_degree graph.now (L.algebra.vertex label.now) }
     ensures { IfOk result (λ twin. (t : Setting) → t.graph ≡ graph.now → twin ≡ extended L.algebra t label.now edge) }
 {
-    keeps_its_bounds(graph);
+    graph.keep_limits();
     let Edge { from: _, to, sep } = *graph.out_edge(label.vertex(), edge);
     let wcet = graph.vertex(to).wcet;
     let longer = label.extend(alloc, sep, to, wcet)?;
     Twin::new(alloc, longer)
-}
-
-// The times of a graph are in range, and its edges lead to its vertices. It does nothing.
-fn keeps_its_bounds(graph: &Graph)
-    ensures { IsSoundGraph graph.now }
-{
-    graph.vertex_count();
 }
 
 // Whether a turn with that outcome was the worker's last.

@@ -70,7 +70,7 @@ fn analyse<G: Gate, R: Threads + Wait + Sync>(
     requires { IsOrder given.now.set.now.tasks given.now.order.now }
     ensures { IfOk result (IsOutcome given.now.set.now given.now.order.now crew.now.effort.budget) }
 {
-    let _tasks = given.set.tasks();
+    given.set.keep_limits();
     let mut progress = Progress::start(crew.alloc, given)?;
     let last = given.order.len() - 1;
     let bound = u64::from(greatest_deadline(given.set.set()));

@@ -85,9 +85,9 @@ impl Progress {
         leaves_pass();
         over_every_refinement();
         times_suffice_for_task();
-        let _tasks = given.set.tasks();
+        given.set.keep_limits();
         let graphs = given.set.graphs();
-        let _count = graphs.count();
+        graphs.keep_limits();
         self.forest.show_sound();
         let task = given.order[place];
         let graph = graphs.graph(task);
@@ -131,9 +131,9 @@ impl Progress {
     {
         over_every_search::<RequestLabel>();
         times_suffice_for_task();
-        let _tasks = given.set.tasks();
+        given.set.keep_limits();
         let graphs = given.set.graphs();
-        let _count = graphs.count();
+        graphs.keep_limits();
         self.forest.show_sound();
         let task = given.order[place];
         let graph = graphs.graph(task);

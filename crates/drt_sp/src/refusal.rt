@@ -26,7 +26,7 @@ pub(crate) fn refusal(
     leaves_miss();
     forest.show_sound();
     let graphs = given.set.graphs();
-    let _count = graphs.count();
+    graphs.keep_limits();
     let deadline = graphs.graph(failed.task).vertex(failed.vertex).deadline;
     let releases = leaf_releases(alloc, given.set, forest, given.order, failed, deadline)?;
     Ok(Evidence::FixedNo {

@@ -34,7 +34,7 @@ pub fn leaf_releases(
     releases_are_in_range();
     forest.show_sound();
     let graphs = set.graphs();
-    let _count = graphs.count();
+    graphs.keep_limits();
     let walks = job_walks(alloc, set, forest, order, shown, end)?;
     let releases = all_releases(alloc, graphs, walks.as_slice(), LAST_DEADLINE)?;
     // So many releases would take more than 100 GB.

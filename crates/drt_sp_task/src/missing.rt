@@ -27,7 +27,7 @@ pub(crate) fn find_miss(
     times_suffice_for_task();
     given.set.keep_limits();
     let graphs = given.set.graphs();
-    let _count = graphs.count();
+    graphs.keep_limits();
     let deadline = graphs.graph(failed.task).vertex(failed.vertex).deadline;
     let releases = leaf_releases(alloc, given.set, forest, given.order, failed, deadline)?;
     let miss = Miss {

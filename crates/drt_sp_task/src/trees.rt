@@ -83,7 +83,7 @@ fn add_tree<G: Gate, R: Threads + Wait + Sync>(
     over_every_interleaving::<RequestLabel>();
     given.set.keep_limits();
     let graphs = given.set.graphs();
-    let _count = graphs.count();
+    graphs.keep_limits();
     trees.forest.show_sound();
     let task = given.order[place];
     match search_tree(

@@ -36,7 +36,7 @@ pub(crate) fn decide_over<G: Gate, R: Threads + Wait + Sync>(
     times_suffice_for_task();
     given.set.keep_limits();
     let graphs = given.set.graphs();
-    let _count = graphs.count();
+    graphs.keep_limits();
     trees.forest.show_sound();
     let roots = trees.roots.as_slice();
     match prove_vertices(crew, &trees.forest, roots, task, graphs.graph(task))? {

@@ -42,5 +42,5 @@ fn needs_are_small(set: &TaskSet, releases: &[Release])
     requires { IsLegal set.now.tasks releases.now }
     ensures { All (λ r. r.need ≤ most_time) releases.now }
 {
-    let _tasks = set.tasks();
+    set.keep_limits();
 }

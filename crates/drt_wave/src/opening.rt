@@ -10,7 +10,7 @@ ghost use Rattle.drt_wave.specs.Lane.{IsLane, IsLaneSeat};
 ghost use Rattle.drt_wave.specs.Lanes.{fresh_lane};
 
 use crate::lane::{Lane, LaneSeat};
-use crate::plan::{Plan, keeps_its_bounds};
+use crate::plan::Plan;
 use drt_model::Memory;
 use drt_pool::{EagerGate, Turn, Work, run_all};
 use std::alloc::Global;
@@ -179,7 +179,7 @@ fn put_in(plan: &Plan, places: &mut Vec<Option<Opened>>, opener: Opener)
     requires opener { IsOpener plan.now opener }
     ensures { HasLanes plan.now places.new.items }
 {
-    keeps_its_bounds(&plan.graph);
+    plan.graph.keep_limits();
     let mut opener = opener;
     'places: for v in 0..places.len() {
         match opener.places[v].take() {

@@ -16,13 +16,6 @@ pub struct Plan {
     pub span: u64,
 }
 
-/// The times of a graph are in range, and it has some vertices with few edges each. It does nothing.
-pub(crate) fn keeps_its_bounds(graph: &Graph)
-    ensures { IsSoundGraph graph.now }
-{
-    graph.vertex_count();
-}
-
 // The least of the separations out of a vertex and `most`.
 fn least_out(graph: &Graph, v: u32, most: u64) -> u64
     requires vertex { v < vertex_count graph.now }
@@ -32,7 +25,7 @@ fn least_out(graph: &Graph, v: u32, most: u64) -> u64
     ensures apart { (k : ℕ) → k < out_degree graph.now v → result ≤ (edge_of graph.now v k).sep }
     ensures greatest { (n : ℕ) → n ≤ most → ((k : ℕ) → k < out_degree graph.now v → n ≤ (edge_of graph.now v k).sep) → n ≤ result }
 {
-    keeps_its_bounds(graph);
+    graph.keep_limits();
     let degree = graph.out_degree(v);
     let mut least = most;
     'edges: for k in 0..degree {
@@ -64,7 +57,7 @@ pub(crate) fn make_plan(alloc: Global, graph: &Graph, bound: u64) -> Result<Plan
     ensures bound { IfOk result (λ plan. plan.bound ≡ bound) }
     ensures planned { IfOk result (λ plan. IsWavePlan plan) }
 {
-    keeps_its_bounds(graph);
+    graph.keep_limits();
     let span = least_separation(graph, bound + 1);
     let graph = graph.copy(alloc)?;
     Ok(Plan { graph, bound, span })
@@ -76,7 +69,7 @@ impl Plan {
         requires small { vertex_count self.now.graph * (self.now.bound + 1) ≤ most_cells }
         ensures { result ≡ width self.now }
     {
-        keeps_its_bounds(&self.graph);
+        self.graph.keep_limits();
         self.bound + 1
     }
 

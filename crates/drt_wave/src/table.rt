@@ -11,7 +11,7 @@ use crate::claims::Claims;
 use crate::dense::DenseFront;
 use crate::lane::{Lane, LaneSeat};
 use crate::opening::open_all;
-use crate::plan::{Plan, keeps_its_bounds, make_plan};
+use crate::plan::{Plan, make_plan};
 use crate::seat::WaveSeat;
 use crate::ways::{Way, make_ways};
 use arrayvec::ArrayVec;
@@ -252,7 +252,7 @@ impl WaveTable {
             lanes: mut seats,
             ..
         } = seat;
-        keeps_its_bounds(&plan.graph);
+        plan.graph.keep_limits();
         let mut lanes = lanes.into_vec();
         let mut columns = ArrayVec::new();
         'lanes: while let Some(lane) = lanes.pop() {

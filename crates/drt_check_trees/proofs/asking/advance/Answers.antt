@@ -13,7 +13,7 @@ loop-cursor-preserved c =
     let d = c.loop-cursor.cursor in
     let l : d.place < length walk = omega arith in
     let v : c.vertex.result.now.wcet ≡ wcet g (get_or walk d.place 0) = ap (λ (x : Vertex). x.wcet) c.vertex.ensures in
-    let small : wcet g (get_or walk d.place 0) ≤ most_time = (c.vertex_count-count.ensures.sound.wcet _ (c.requires.walk.each d.place 0 l)).1 in
+    let small : wcet g (get_or walk d.place 0) ≤ most_time = (c.keep_limits.ensures.wcet _ (c.requires.walk.each d.place 0 l)).1 in
     let o = c.next_offset.ensures.value in (
       record {
         within = omega arith;

@@ -22,7 +22,7 @@ loop-i-preserved c =
     let g = c.args.graph.now in
     let v : c.vertex.result.now.wcet ≡ wcet g (get_or c.args.other.now c.loop-i.i 0) = ap (λ (x : Vertex). x.wcet) c.vertex.ensures in
     let o : c.next_offset-offset.result ≡ c.loop-i.offset + leap g c.args.other.now c.loop-i.i = c.next_offset-offset.ensures.value in
-    let small : wcet g (get_or c.args.other.now c.loop-i.i 0) ≤ most_time = (c.vertex_count-count.ensures.sound.wcet _ (c.requires.other.each c.loop-i.i 0 c.loop-i-test.true)).1 in
+    let small : wcet g (get_or c.args.other.now c.loop-i.i 0) ≤ most_time = (c.keep_limits.ensures.wcet _ (c.requires.other.each c.loop-i.i 0 c.loop-i-test.true)).1 in
     let short : leap g c.args.other.now c.loop-i.i ≤ most_time = omega (arith, o, c.next_offset-offset.ensures.most) in
     let enough : c.loop-i.work + wcet g (get_or c.args.other.now c.loop-i.i 0) ≤ c.advance-cursor.result.work = omega (arith, c.if-cursor-work.false, v) in
     rw (v, o) (settled_more g c.args.bound c.args.other.now c.args.walk.now c.loop-i.i c.loop-i.offset c.loop-i.work c.loop-i.cursor c.loop-i.invariant

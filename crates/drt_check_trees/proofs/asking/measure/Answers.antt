@@ -11,7 +11,7 @@ loop-i-preserved c =
     let w = work_at g walk i c.loop-i-test.true in
     let s = span_at g walk i c.loop-i-test.true in
     let v = ap (λ (x : Vertex). x.wcet) c.vertex.ensures in
-    let small = (c.vertex_count-count.ensures.sound.wcet _ (c.requires.within.each i 0 c.loop-i-test.true)).1 in (
+    let small = (c.keep_limits.ensures.wcet _ (c.requires.within.each i 0 c.loop-i-test.true)).1 in (
       omega (arith, c.loop-i.invariant.0, w, v),
       omega (arith, c.loop-i.invariant.1, s, c.next_offset-span.ensures.value),
       omega (arith, c.loop-i.invariant.2, v, small),

@@ -5,11 +5,11 @@ use Rattle.drt_check_trees.proofs.Ranks.{short_last, short_within}
 use Rattle.drt_check_trees.proofs.covering.is_closed.Goals as goal
 
 pub measure-extent-requires-clause-within : goal.measure-extent-requires-clause-within
-measure-extent-requires-clause-within c = short_within c.args.graph.now c.vertex_count-count.ensures.sound c.args.bound c.args.walk.now c.requires.bound c.requires.walk
+measure-extent-requires-clause-within c = short_within c.args.graph.now c.keep_limits.ensures c.args.bound c.args.walk.now c.requires.bound c.requires.walk
 
 pub out_degree-k-end-requires : goal.out_degree-k-end-requires
 out_degree-k-end-requires c =
-    let l = short_last c.args.graph.now c.vertex_count-count.ensures.sound c.args.bound c.args.walk.now c.requires.walk in
+    let l = short_last c.args.graph.now c.keep_limits.ensures c.args.bound c.args.walk.now c.requires.walk in
     omega (arith, l, c.last_in-last.ensures)
 
 pub returns : goal.returns

@@ -13,7 +13,7 @@ use Rattle.drt_check_trees.proofs.covering.is_extended.Goals as goal
 
 pub overflow_add-work : goal.overflow_add-work
 overflow_add-work c =
-    let small = short_small c.args.graph.now c.vertex_count-count.ensures.sound c.args.bound c.args.walk.now c.requires.bound c.requires.walk in
+    let small = short_small c.args.graph.now c.keep_limits.ensures c.args.bound c.args.walk.now c.requires.bound c.requires.walk in
     omega (arith, small, c.requires.work)
 
 pub has_above-requires-clause-walk : goal.has_above-requires-clause-walk
@@ -24,7 +24,7 @@ has_above-requires-clause-walk c =
     let e : c.out_edge-edge.result.now ≡ edge_of g (last_in walk) k = c.out_edge-edge.ensures ∙ ap (λ (v : ℕ). edge_of g v k) c.last_in.ensures in
     let y : c.as_slice-2.result.now ≡ walk ++ (edge_of g (last_in walk) k).to ∷ [] = c.as_slice-2.ensures.value ∙ (c.in_ok-longer.ensures ∙ ap (λ (x : Edge). walk ++ x.to ∷ []) e) in
     let near : span_of g walk + (edge_of g (last_in walk) k).sep < c.args.bound = omega (arith, c.if-span-bound.false, c.requires.span, ap (λ (x : Edge). x.sep) e) in
-    subst (λ (w : List ℕ). IsShortWalk c.args.bound g w) (sym y) (short_longer g c.vertex_count-count.ensures.sound c.args.bound k walk c.requires.walk c.requires.edge near)
+    subst (λ (w : List ℕ). IsShortWalk c.args.bound g w) (sym y) (short_longer g c.keep_limits.ensures c.args.bound k walk c.requires.walk c.requires.edge near)
 
 pub has_above-requires-clause-span : goal.has_above-requires-clause-span
 has_above-requires-clause-span c =
@@ -33,7 +33,7 @@ has_above-requires-clause-span c =
     let k : ℕ = c.args.k in
     let e : c.out_edge-edge.result.now ≡ edge_of g (last_in walk) k = c.out_edge-edge.ensures ∙ ap (λ (v : ℕ). edge_of g v k) c.last_in.ensures in
     let y : c.as_slice-2.result.now ≡ walk ++ (edge_of g (last_in walk) k).to ∷ [] = c.as_slice-2.ensures.value ∙ (c.in_ok-longer.ensures ∙ ap (λ (x : Edge). walk ++ x.to ∷ []) e) in
-    let s = span_longer g c.vertex_count-count.ensures.sound c.args.bound k walk c.requires.walk c.requires.edge in
+    let s = span_longer g c.keep_limits.ensures c.args.bound k walk c.requires.walk c.requires.edge in
     omega (arith, s, ap (λ (w : List ℕ). span_of g w) y, c.requires.span, ap (λ (x : Edge). x.sep) e)
 
 pub has_above-requires-clause-work : goal.has_above-requires-clause-work

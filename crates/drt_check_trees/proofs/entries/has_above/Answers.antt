@@ -10,41 +10,41 @@ use Rattle.drt_check_trees.proofs.entries.has_above.Goals as goal
 
 pub overflow_mul-last : goal.overflow_mul-last
 overflow_mul-last c =
-    let l = short_last c.args.graph.now c.vertex_count-count.ensures.sound c.args.bound c.args.walk.now c.requires.walk in
-    omega (arith, l, c.last_in-last.ensures, c.vertex_count-count.ensures.sound.few)
+    let l = short_last c.args.graph.now c.keep_limits.ensures c.args.bound c.args.walk.now c.requires.walk in
+    omega (arith, l, c.last_in-last.ensures, c.keep_limits.ensures.few)
 
 pub rank_of-requires-clause-last : goal.rank_of-requires-clause-last
 rank_of-requires-clause-last c =
-    let l = short_last c.args.graph.now c.vertex_count-count.ensures.sound c.args.bound c.args.walk.now c.requires.walk in
-    omega (arith, l, c.last_in-last.ensures, c.vertex_count-count.ensures.sound.few)
+    let l = short_last c.args.graph.now c.keep_limits.ensures c.args.bound c.args.walk.now c.requires.walk in
+    omega (arith, l, c.last_in-last.ensures, c.keep_limits.ensures.few)
 
 pub rank_of-requires-clause-work : goal.rank_of-requires-clause-work
 rank_of-requires-clause-work c =
-    let w = short_small c.args.graph.now c.vertex_count-count.ensures.sound c.args.bound c.args.walk.now c.requires.bound c.requires.walk in
+    let w = short_small c.args.graph.now c.keep_limits.ensures c.args.bound c.args.walk.now c.requires.bound c.requires.walk in
     omega (arith, w, c.requires.work)
 
 pub digest_of-requires-clause-within : goal.digest_of-requires-clause-within
-digest_of-requires-clause-within c = short_within c.args.graph.now c.vertex_count-count.ensures.sound c.args.bound c.args.walk.now c.requires.bound c.requires.walk
+digest_of-requires-clause-within c = short_within c.args.graph.now c.keep_limits.ensures c.args.bound c.args.walk.now c.requires.bound c.requires.walk
 
 pub overflow_add-own : goal.overflow_add-own
 overflow_add-own c =
-    let l = short_last c.args.graph.now c.vertex_count-count.ensures.sound c.args.bound c.args.walk.now c.requires.walk in
-    omega (arith, l, c.last_in-last.ensures, c.vertex_count-count.ensures.sound.few, c.rank_of.ensures)
+    let l = short_last c.args.graph.now c.keep_limits.ensures c.args.bound c.args.walk.now c.requires.walk in
+    omega (arith, l, c.last_in-last.ensures, c.keep_limits.ensures.few, c.rank_of.ensures)
 
 pub bounds-hints-last : goal.bounds-hints-last
 bounds-hints-last c =
-    let l = short_last c.args.graph.now c.vertex_count-count.ensures.sound c.args.bound c.args.walk.now c.requires.walk in
-    omega (arith, l, c.last_in-last.ensures, c.vertex_count-count.ensures.sound.few)
+    let l = short_last c.args.graph.now c.keep_limits.ensures c.args.bound c.args.walk.now c.requires.walk in
+    omega (arith, l, c.last_in-last.ensures, c.keep_limits.ensures.few)
 
 pub bounds-hints-last-then-is_over_at-2 : goal.bounds-hints-last-then-is_over_at-2
 bounds-hints-last-then-is_over_at-2 c =
-    let l = short_last c.args.graph.now c.vertex_count-count.ensures.sound c.args.bound c.args.walk.now c.requires.walk in
-    omega (arith, l, c.last_in-last.ensures, c.vertex_count-count.ensures.sound.few)
+    let l = short_last c.args.graph.now c.keep_limits.ensures c.args.bound c.args.walk.now c.requires.walk in
+    omega (arith, l, c.last_in-last.ensures, c.keep_limits.ensures.few)
 
 pub bounds-hints-last-then-is_no_less : goal.bounds-hints-last-then-is_no_less
 bounds-hints-last-then-is_no_less c =
-    let l = short_last c.args.graph.now c.vertex_count-count.ensures.sound c.args.bound c.args.walk.now c.requires.walk in
-    omega (arith, l, c.last_in-last.ensures, c.vertex_count-count.ensures.sound.few)
+    let l = short_last c.args.graph.now c.keep_limits.ensures c.args.bound c.args.walk.now c.requires.walk in
+    omega (arith, l, c.last_in-last.ensures, c.keep_limits.ensures.few)
 
 pub returns-then-is_no_less : goal.returns-then-is_no_less
 returns-then-is_no_less c =

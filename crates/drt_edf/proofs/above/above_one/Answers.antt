@@ -11,7 +11,7 @@ use Rattle.drt_edf.proofs.above.above_one.Goals as goal
 
 pub overload_refusal-requires-clause-time : goal.overload_refusal-requires-clause-time
 overload_refusal-requires-clause-time c =
-    let kept = subst AreGraphs c.graphs-graphs.ensures.graphs c.count-count.ensures.kept in
+    let kept = subst AreGraphs c.graphs-graphs.ensures.graphs c.keep_limits.ensures in
     let found = subst (λ gs. IsOverFound (cycle_turns_of gs c.args.proofs.now) c.budget.result (Found c.in-Found.t)) c.graphs-graphs.ensures.graphs c.in-Found.ensures in
     overload_near (graphs_of c.args.set.now.tasks) c.args.proofs.now kept c.requires.given c.budget.result c.in-Found.t c.budget.ensures.few found
 
@@ -23,7 +23,7 @@ returns-in_ok-evidence-in-Found c =
 
 pub returns-in-Spent : goal.returns-in-Spent
 returns-in-Spent c =
-    let kept = subst AreGraphs c.graphs-graphs.ensures.graphs c.count-count.ensures.kept in
+    let kept = subst AreGraphs c.graphs-graphs.ensures.graphs c.keep_limits.ensures in
     let spent = subst (λ gs. IsOverFound (cycle_turns_of gs c.args.proofs.now) c.budget.result (Spent c.in-Spent.last)) c.graphs-graphs.ensures.graphs c.in-Spent.ensures in
     let over = subst (λ b. IsOverFound (cycle_turns_of (graphs_of c.args.set.now.tasks) c.args.proofs.now) b (Spent c.in-Spent.last)) c.budget.ensures.is spent in
     spent_overload c.search_ends.ensures c.args.set.now.tasks c.args.proofs.now kept c.requires.given c.requires.above c.args.effort.budget c.in-Spent.last over

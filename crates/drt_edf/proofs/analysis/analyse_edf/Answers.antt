@@ -23,9 +23,9 @@ returns-in_ok-claims_of-in-Ok-One g c =
     let plan = subst (λ gs. IsHorizonPlan gs c.in_ok-proofs.proofs (Ok One)) c.graphs-graphs.ensures.graphs here in
     let claims = c.in_ok-claims_of-in-Ok-One.ensures in
     let only = planned_one c.args.set.now.tasks c.graphs-graphs.ensures.constrained c.in_ok-proofs.proofs given plan in
-    let range = claims_in_range c.graphs-graphs.result.now c.in_ok-proofs.proofs c.count-count.ensures.kept.sound c.in_ok-proofs.ensures in
+    let range = claims_in_range c.graphs-graphs.result.now c.in_ok-proofs.proofs c.keep_limits.ensures.sound c.in_ok-proofs.ensures in
     let count = claims_count c.graphs-graphs.result.now c.in_ok-proofs.proofs c.in_ok-proofs.ensures in
-    let ranges : IsEvidenceInRange (UtilisationOne (claims_of c.in_ok-proofs.proofs)) = (range, omega (arith, count, c.count-count.ensures.kept.few)) in
+    let ranges : IsEvidenceInRange (UtilisationOne (claims_of c.in_ok-proofs.proofs)) = (range, omega (arith, count, c.keep_limits.ensures.few)) in
     (subst (λ x. IsOnlyOne c.args.set.now.tasks x) (sym claims) only, only.at_one, subst (λ x. IsEvidenceInRange (UtilisationOne x)) (sym claims) ranges)
 
 pub returns-in-Err : goal.returns-in-Err

@@ -11,7 +11,7 @@ returns-then-is_empty c = c.from_vec.ensures ∙ (c.new.ensures.items ∙ sym (t
 pub nonzero_div-count : goal.nonzero_div-count
 nonzero_div-count c =
     let some : 0 < length c.args.cycle.now = search rules in
-    let sums = cycle_sums c.args.graph.now c.vertex_count-count.ensures.sound c.args.cycle.now (c.requires some) in
+    let sums = cycle_sums c.args.graph.now c.keep_limits.ensures c.args.cycle.now (c.requires some) in
     omega (arith, c.cycle_sums-work.ensures.span, sums.span_some)
 
 pub returns : goal.returns

@@ -17,7 +17,7 @@ counted_front g bound None h = tt
 counted_front g bound (Some front) m = m.counted
 
 pub returns-clause-front : goal.returns-clause-front
-returns-clause-front c = label_front c.args.graph.now c.args.bound c.vertex_count-count.ensures.sound c.in_ok-merged.merged c.in_ok-merged.ensures
+returns-clause-front c = label_front c.args.graph.now c.args.bound c.keep_limits.ensures c.in_ok-merged.merged c.in_ok-merged.ensures
 
 pub returns-clause-counted : goal.returns-clause-counted
 returns-clause-counted c = counted_front c.args.graph.now c.args.bound c.in_ok-merged.merged c.in_ok-merged.ensures

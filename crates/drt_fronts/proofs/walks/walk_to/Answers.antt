@@ -16,12 +16,12 @@ steps-preserved c = record {
 }
 
 pub steps-smaller : goal.steps-smaller
-steps-smaller c = prefix_earlier c.args.graph.now c.vertex_count-count.ensures.sound c.predecessor-entry.result c.steps.entry c.predecessor-entry.ensures.before
+steps-smaller c = prefix_earlier c.args.graph.now c.keep_limits.ensures c.predecessor-entry.result c.steps.entry c.predecessor-entry.ensures.before
 
 pub returns : goal.returns
 returns c =
     let g = c.args.graph.now in
-    let sound = c.vertex_count-count.ensures.sound in
+    let sound = c.keep_limits.ensures in
     let is = c.requires.front.1 in
     let none : c.steps.entry.offset ≡ 0 = omega (arith, c.steps-test.false) in
     let vertex = entry_vertex g sound c.requires.front.0 c.args.front.now is c.steps.entry c.steps.invariant.there in

@@ -10,7 +10,7 @@ pub rate-sum-requires-clause-small : goal.rate-sum-requires-clause-small
 rate-sum-requires-clause-small c = ratios_small c.args.proofs.now (given_small c.args.graphs.now c.args.proofs.now c.requires)
 
 pub rate-sum-requires-clause-few : goal.rate-sum-requires-clause-few
-rate-sum-requires-clause-few c = omega (arith, given_count c.args.graphs.now c.args.proofs.now c.requires, c.count-count.ensures.kept.few)
+rate-sum-requires-clause-few c = omega (arith, given_count c.args.graphs.now c.args.proofs.now c.requires, c.keep_limits.ensures.few)
 
 pub horizon-bound-requires-clause-rated : goal.horizon-bound-requires-clause-rated
 horizon-bound-requires-clause-rated c = given_rated c.args.graphs.now c.args.proofs.now c.requires

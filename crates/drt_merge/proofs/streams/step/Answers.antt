@@ -20,7 +20,7 @@ offer-requires-clause-walk c =
     let o = ap (λ (z : Mark). z.offset) cand.1 in
     let due = cand.2 in
     subst (λ z. IsWalkEntry g b (entry_of a.target z)) (sym cand.1)
-    (walk_arc g c.vertex_count-count.ensures.sound b a m is ((c.requires.merging.rows.each a.source is.vertex).walks from cand.0) (omega (arith, o, due)))
+    (walk_arc g c.keep_limits.ensures b a m is ((c.requires.merging.rows.each a.source is.vertex).walks from cand.0) (omega (arith, o, due)))
 
 pub returns-in-Kept : goal.returns-in-Kept
 returns-in-Kept c =

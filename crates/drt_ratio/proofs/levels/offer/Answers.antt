@@ -6,7 +6,7 @@ use Rattle.drt_ratio.proofs.levels.offer.Goals as goal
 
 pub overflow_add-high : goal.overflow_add-high
 overflow_add-high c =
-    let sound = c.vertex_count-count.ensures.sound in
+    let sound = c.keep_limits.ensures in
     let to = sound.to c.args.u c.args.k c.requires.vertex c.requires.edge in
     let below = raised_below c.args.graph.now c.args.a c.args.b _ c.args.low.now c.args.high.now sound c.requires.b_small c.requires.raised c.requires.low_small _ to in
     let loss = loss_small c.args.graph.now c.args.a c.args.u c.args.k sound c.requires.a_small c.requires.vertex c.requires.edge in
@@ -14,7 +14,7 @@ overflow_add-high c =
 
 pub returns-then-high-v-clause-raised : goal.returns-then-high-v-clause-raised
 returns-then-high-v-clause-raised c =
-    let sound = c.vertex_count-count.ensures.sound in
+    let sound = c.keep_limits.ensures in
     let few = sound.few in
     let to = sound.to c.args.u c.args.k c.requires.vertex c.requires.edge in
     let edge = sep_of_edge c.args.graph.now sound c.args.u c.args.k c.requires.vertex c.requires.edge in

@@ -11,7 +11,7 @@ use Rattle.drt_sp.proofs.Orders.{order_count}
 use Rattle.drt_sp.proofs.analysis.analyse.Goals as goal
 
 pub overflow_sub-last : goal.overflow_sub-last
-overflow_sub-last g c = omega (arith, order_count c.args.given.now.set.now.tasks c.args.given.now.order.now c.requires, c.tasks-tasks.ensures.limits.has_task)
+overflow_sub-last g c = omega (arith, order_count c.args.given.now.set.now.tasks c.args.given.now.order.now c.requires, c.keep_limits.ensures.limits.has_task)
 
 pub add_tree-requires-clause-found : goal.add_tree-requires-clause-found
 add_tree-requires-clause-found g c κs within =
@@ -21,7 +21,7 @@ add_tree-requires-clause-found g c κs within =
     (c.take-found.ensures.taken (graphs_of c.args.given.now.set.now.tasks) c.args.given.now.order.now c.from-bound.result c.args.crew.now.effort.budget c.in_ok-ahead.ensures)
 
 pub prove_task-requires-2-clause-here : goal.prove_task-requires-2-clause-here
-prove_task-requires-2-clause-here g c = omega (arith, order_count c.args.given.now.set.now.tasks c.args.given.now.order.now c.requires, c.tasks-tasks.ensures.limits.has_task)
+prove_task-requires-2-clause-here g c = omega (arith, order_count c.args.given.now.set.now.tasks c.args.given.now.order.now c.requires, c.keep_limits.ensures.limits.has_task)
 
 pub prove_task-requires-2-clause-proved : goal.prove_task-requires-2-clause-proved
 prove_task-requires-2-clause-proved g c κs within =
@@ -35,7 +35,7 @@ returns-in-None g c =
     let order : List ℕ = c.args.given.now.order.now in
     let is : IsOrder tasks order = c.requires in
     let e : c.places.place ≡ length order - 1 = omega (arith, c.places-test.false, c.places.auto.place-end) in
-    let whole : (length order - 1) + 1 ≡ length order = omega (arith, order_count tasks order is, c.tasks-tasks.ensures.limits.has_task) in
+    let whole : (length order - 1) + 1 ≡ length order = omega (arith, order_count tasks order is, c.keep_limits.ensures.limits.has_task) in
     let grown : AreTreesGrown tasks order (length order - 1) c.places.progress.forest c.places.progress.roots.items c.places.progress.trees.items
     = subst (λ (n : ℕ). AreTreesGrown tasks order n c.places.progress.forest c.places.progress.roots.items c.places.progress.trees.items) e c.places.invariant.grown in
     let proved : AreProved tasks order ((length order - 1) + 1) c.prove_task-2.new.self.trees.items c.prove_task-2.new.self.proofs.items = rw c.in-None.is at c.in_ok-answer-3.ensures.decided in

@@ -38,7 +38,7 @@ plant_tree-requires-clause-room g c =
     let f : Plain = c.args.self.now.forest in
     let roots : List ℕ = c.args.self.now.roots.items in
     let trees : List TreeClaim = c.args.self.now.trees.items in
-    let limits : IsTaskSet set.version tasks = c.tasks-tasks.ensures.limits in
+    let limits : IsTaskSet set.version tasks = c.keep_limits.ensures.limits in
     omega (arith, c.requires.grown.few, c.requires.here, order_count tasks order is, few_tasks set.version tasks limits)
 
 pub plant_tree-requires-clause-found : goal.plant_tree-requires-clause-found
@@ -58,7 +58,7 @@ returns-in_ok-push-in-Tree-2-clause-grown g c =
     let f : Plain = c.args.self.now.forest in
     let roots : List ℕ = c.args.self.now.roots.items in
     let trees : List TreeClaim = c.args.self.now.trees.items in
-    let limits : IsTaskSet set.version tasks = c.tasks-tasks.ensures.limits in
+    let limits : IsTaskSet set.version tasks = c.keep_limits.ensures.limits in
     let l : place < length order = omega (arith, c.requires.here) in
     let at : slice_get order place ≡ Some k = at_place tasks order is place l in
     let below : k < length tasks = order_below tasks order is place l in
@@ -81,7 +81,7 @@ returns-in_ok-push-in-Tree-2-clause-proved g c =
     let f : Plain = c.args.self.now.forest in
     let roots : List ℕ = c.args.self.now.roots.items in
     let trees : List TreeClaim = c.args.self.now.trees.items in
-    let limits : IsTaskSet set.version tasks = c.tasks-tasks.ensures.limits in
+    let limits : IsTaskSet set.version tasks = c.keep_limits.ensures.limits in
     let l : place < length order = omega (arith, c.requires.here) in
     let count : length trees ≡ place = trees_count tasks order place (omega arith) f roots trees c.requires.grown in
     rw c.in_ok-push-in-Tree-2.ensures.items (proved_kept tasks order (place + 1) trees c.in-Tree.tree.claim c.args.self.now.proofs.items (omega (arith, count)) c.requires.proved)
@@ -97,7 +97,7 @@ returns-in-Spent-clause-grown g c =
     let f : Plain = c.args.self.now.forest in
     let roots : List ℕ = c.args.self.now.roots.items in
     let trees : List TreeClaim = c.args.self.now.trees.items in
-    let limits : IsTaskSet set.version tasks = c.tasks-tasks.ensures.limits in
+    let limits : IsTaskSet set.version tasks = c.keep_limits.ensures.limits in
     let l : place < length order = omega (arith, c.requires.here) in
     let at : slice_get order place ≡ Some k = at_place tasks order is place l in
     let below : k < length tasks = order_below tasks order is place l in
