@@ -14,7 +14,7 @@ use Rattle.drt_busy.proofs.Cuts.{cut_walk}
 use Rattle.drt_claims.specs.Claims.{graphs_of}
 use Rattle.drt_releases.proofs.Walks.{graph_same}
 use Rattle.drt_releases.specs.Walks.{AreDueWalks}
-use Rattle.drt_fixed_task.specs.Higher.{job_walk, placed_walk}
+use Rattle.drt_fixed_task.specs.Higher.{job_walk_in_file_order, walk_in_file_order}
 use Rattle.drt_releases.proofs.Cuts.{cut_due, one_due}
 
 -- A walk of the graph that is due by t.
@@ -24,28 +24,28 @@ IsDueWalk g t w = IsWalk g w × (due_of g w ≤ t)
 module _ (tasks : List Task) (walks : List (List ℕ)) (k v d : ℕ) where
   -- The walk of a task of higher priority, of the task itself, and of any other one.
   pub walk_higher : (i : ℕ) → ltb (task_at tasks i).priority (task_at tasks k).priority ≡ true
-      → job_walk tasks walks k v d i ≡ cut (graph_at tasks i) d (placed_walk tasks (task_at tasks k).priority walks i)
+      → job_walk_in_file_order tasks walks k v d i ≡ cut (graph_at tasks i) d (walk_in_file_order tasks (task_at tasks k).priority walks i)
   unfolding with_job
   walk_higher i above = rw above refl
 
-  pub walk_here : (i : ℕ) → ltb (task_at tasks i).priority (task_at tasks k).priority ≡ false → eqb i k ≡ true → job_walk tasks walks k v d i ≡ v ∷ []
+  pub walk_here : (i : ℕ) → ltb (task_at tasks i).priority (task_at tasks k).priority ≡ false → eqb i k ≡ true → job_walk_in_file_order tasks walks k v d i ≡ v ∷ []
   unfolding with_job
   walk_here i below is = rw (below, is) refl
 
-  pub walk_nowhere : (i : ℕ) → ltb (task_at tasks i).priority (task_at tasks k).priority ≡ false → eqb i k ≡ false → job_walk tasks walks k v d i ≡ []
+  pub walk_nowhere : (i : ℕ) → ltb (task_at tasks i).priority (task_at tasks k).priority ≡ false → eqb i k ≡ false → job_walk_in_file_order tasks walks k v d i ≡ []
   unfolding with_job
   walk_nowhere i below other = rw (below, other) refl
 
-  module _ (version : ℕ) (limits : IsTaskSet version tasks) (are : AreWalks tasks (placed_walk tasks (task_at tasks k).priority walks)) (here : k < length tasks)
+  module _ (version : ℕ) (limits : IsTaskSet version tasks) (are : AreWalks tasks (walk_in_file_order tasks (task_at tasks k).priority walks)) (here : k < length tasks)
       (vertex : v < vertex_count (graph_at tasks k)) (small : d ≤ most_time) where
-    higher_due : (i : ℕ) → i < length tasks → IsDueWalk (graph_at tasks i) 2000000 (cut (graph_at tasks i) d (placed_walk tasks (task_at tasks k).priority walks i))
+    higher_due : (i : ℕ) → i < length tasks → IsDueWalk (graph_at tasks i) 2000000 (cut (graph_at tasks i) d (walk_in_file_order tasks (task_at tasks k).priority walks i))
     higher_due i l =
         let g : Digraph = graph_at tasks i in
-        let w : List ℕ = placed_walk tasks (task_at tasks k).priority walks i in
+        let w : List ℕ = walk_in_file_order tasks (task_at tasks k).priority walks i in
         let sound : IsSoundGraph g = all_sound version tasks limits i no_task l in
         (cut_walk g d w (are i l), omega (arith, cut_due g sound d w (are i l), small))
 
-    job_due : (i : ℕ) → i < length tasks → IsDueWalk (graph_at tasks i) 2000000 (job_walk tasks walks k v d i)
+    job_due : (i : ℕ) → i < length tasks → IsDueWalk (graph_at tasks i) 2000000 (job_walk_in_file_order tasks walks k v d i)
     job_due i l = elim (cases_Bool (ltb (task_at tasks i).priority (task_at tasks k).priority)) [
       | inl above ↦ subst (IsDueWalk (graph_at tasks i) 2000000) (sym (walk_higher i above)) (higher_due i l)
       | inr below ↦ elim (cases_Bool (eqb i k)) [
@@ -61,7 +61,7 @@ module _ (tasks : List Task) (walks : List (List ℕ)) (k v d : ℕ) where
     ]
 
     -- Walks that are the same are due, too.
-    pub due_walks : (others : ℕ → List ℕ) → ((i : ℕ) → i < length tasks → others i ≡ job_walk tasks walks k v d i) → (gs : List Digraph) → gs ≡ graphs_of tasks → AreDueWalks gs others 2000000
+    pub due_walks : (others : ℕ → List ℕ) → ((i : ℕ) → i < length tasks → others i ≡ job_walk_in_file_order tasks walks k v d i) → (gs : List Digraph) → gs ≡ graphs_of tasks → AreDueWalks gs others 2000000
     due_walks others same gs is i l =
         let m : i < length tasks = omega (arith, l, ap length is, length-map tasks digraph_of) in
         let e : graph_of gs i ≡ graph_at tasks i = ap (λ xs. graph_of xs i) is ∙ graph_same tasks i m in

@@ -12,7 +12,7 @@ use Rattle.drt_claims.specs.Claims.{graphs_of}
 use Rattle.drt_check_states.specs.Places.{graphs_at}
 use Rattle.drt_states_laws.specs.Laws.{asked_together}
 use Rattle.drt_releases.proofs.Walks.{graph_same}
-use Rattle.drt_fixed_task.specs.Higher.{higher_before, placed_walk}
+use Rattle.drt_fixed_task.specs.Higher.{higher_before, walk_in_file_order}
 use Rattle.drt_fixed_task.proofs.HigherTasks.{asked_is, higher_all, higher_no, higher_yes}
 use Rattle.drt_fixed_task.proofs.Lists.{map_same, zip_each, zip_long}
 
@@ -34,7 +34,7 @@ higher_has tasks p (suc n) i l high = elim (cases_eq i n) [
 
 -- The walk of a task of higher priority.
 pub placed_here : (tasks : List Task) (p : ℕ) (walks : List (List ℕ)) (i : ℕ) → ltb (task_at tasks i).priority p ≡ true
-    → placed_walk tasks p walks i ≡ get_or walks (length (higher_before tasks p i)) []
+    → walk_in_file_order tasks p walks i ≡ get_or walks (length (higher_before tasks p i)) []
 placed_here tasks p walks i above = rw above refl
 
 -- The graphs of the tasks of higher priority, by the graphs of the set.
@@ -48,7 +48,7 @@ higher_graphs tasks p graphs same =
 
 module _ (tasks : List Task) (p : ℕ) (walks : List (List ℕ)) where
   abbrev placed : ℕ → List ℕ
-  placed i = placed_walk tasks p walks i
+  placed i = walk_in_file_order tasks p walks i
 
   -- The walks of the first ones stand in order in the list.
   placed_map : (n : ℕ) → length (higher_before tasks p n) ≤ length walks → map placed (higher_before tasks p n) ≡ take (length (higher_before tasks p n)) walks
@@ -70,26 +70,26 @@ module _ (tasks : List Task) (p : ℕ) (walks : List (List ℕ)) where
       ]
 
 module _ (tasks : List Task) (p : ℕ) (walks : List (List ℕ)) (each : AllZip IsWalk (map (graph_at tasks) (higher_before tasks p (length tasks))) walks) where
-  placed_all : map (placed_walk tasks p walks) (higher_before tasks p (length tasks)) ≡ walks
+  placed_all : map (walk_in_file_order tasks p walks) (higher_before tasks p (length tasks)) ≡ walks
   placed_all =
       let xs : List ℕ = higher_before tasks p (length tasks) in
       let long : length xs ≡ length walks = sym (length-map xs (graph_at tasks)) ∙ zip_long IsWalk (map (graph_at tasks) xs) walks each in
       placed_map tasks p walks (length tasks) (omega (arith, long)) ∙ take_all (length xs) walks (omega (arith, long))
 
   -- They are walks of the tasks.
-  pub placed_are : AreWalks tasks (placed_walk tasks p walks)
+  pub placed_are : AreWalks tasks (walk_in_file_order tasks p walks)
   placed_are i l =
       let xs : List ℕ = higher_before tasks p (length tasks) in
-      let IsPlaced : ℕ → Type 0 = λ j. IsWalk (graph_at tasks j) (placed_walk tasks p walks j) in
+      let IsPlaced : ℕ → Type 0 = λ j. IsWalk (graph_at tasks j) (walk_in_file_order tasks p walks j) in
       let same = subst (λ ws. AllZip IsWalk (map (graph_at tasks) xs) ws) (sym placed_all) each in
-      let all : All IsPlaced xs = All-from_recursion IsPlaced xs (zip_each IsWalk (graph_at tasks) (placed_walk tasks p walks) xs same) in
+      let all : All IsPlaced xs = All-from_recursion IsPlaced xs (zip_each IsWalk (graph_at tasks) (walk_in_file_order tasks p walks) xs same) in
       elim (cases_Bool (ltb (task_at tasks i).priority p)) [
         | inl above ↦ All-contains IsPlaced xs i all (higher_has tasks p (length tasks) i l above)
         | inr below ↦ rw below tt
       ]
 
   -- What they ask for is what the list asks for.
-  pub placed_asked : (t : ℕ) → requests tasks (placed_walk tasks p walks) p (length tasks) t ≡ asked_together (map (graph_at tasks) (higher_before tasks p (length tasks))) walks t
+  pub placed_asked : (t : ℕ) → requests tasks (walk_in_file_order tasks p walks) p (length tasks) t ≡ asked_together (map (graph_at tasks) (higher_before tasks p (length tasks))) walks t
   placed_asked t =
       let xs : List ℕ = higher_before tasks p (length tasks) in
-      sym (asked_is tasks p (placed_walk tasks p walks) (length tasks) t) ∙ ap (λ ws. asked_together (map (graph_at tasks) xs) ws t) placed_all
+      sym (asked_is tasks p (walk_in_file_order tasks p walks) (length tasks) t) ∙ ap (λ ws. asked_together (map (graph_at tasks) xs) ws t) placed_all

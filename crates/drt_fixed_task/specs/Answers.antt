@@ -8,14 +8,14 @@ use Rattle.drt_sp_states.specs.declared.search.Searched.TheVariants as searches
 use Rattle.drt_sp_task.specs.Task.{IsMeeting, IsTaskMiss}
 use Rattle.drt_sp_task.specs.declared.answer.TaskAnswer.{TaskAnswer}
 use Rattle.drt_sp_task.specs.declared.answer.TaskAnswer.TheVariants as answers
-use Rattle.drt_fixed_task.specs.Higher.{placed_walk}
+use Rattle.drt_fixed_task.specs.Higher.{walk_in_file_order}
 use Rattle.drt_fixed_task.specs.Walks.{LeaveNoTime}
 
 -- What the search of the states of vertex v of task k says: for all walks a time passes; or walks of the tasks of higher priority, in order of
 -- the file, leave it no time; or nothing.
 abbrev pub IsSearched : List Task → ℕ → ℕ → Searched → Type 0
 IsSearched tasks k v (searches.Passes states) = VertexPasses tasks k v
-IsSearched tasks k v (searches.Misses walks) = LeaveNoTime tasks (placed_walk tasks (task_at tasks k).priority walks) k v
+IsSearched tasks k v (searches.Misses walks) = LeaveNoTime tasks (walk_in_file_order tasks (task_at tasks k).priority walks) k v
 IsSearched tasks k v searches.Spent = Unit {0}
 
 -- An answer to task k that doesn't rest on a budget.

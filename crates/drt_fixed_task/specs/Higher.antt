@@ -16,9 +16,9 @@ abbrev pub higher_tasks : List Task → ℕ → List ℕ
 higher_tasks tasks k = higher_before tasks (task_at tasks k).priority (length tasks)
 
 -- The walk of task i, where walks of the tasks of a higher priority than p stand in order of the file; no walk for any other task.
-abbrev pub placed_walk : List Task → ℕ → List (List ℕ) → ℕ → List ℕ
-placed_walk tasks p walks i = if nat_lt (task_at tasks i).priority p then walk_at walks (length (higher_before tasks p i)) else []
+abbrev pub walk_in_file_order : List Task → ℕ → List (List ℕ) → ℕ → List ℕ
+walk_in_file_order tasks p walks i = if nat_lt (task_at tasks i).priority p then walk_at walks (length (higher_before tasks p i)) else []
 
 -- The walk of task i beside vertex v of task k, where walks of the tasks of higher priority stand in order of the file and are cut at d ticks.
-abbrev pub job_walk : List Task → List (List ℕ) → ℕ → ℕ → ℕ → ℕ → List ℕ
-job_walk tasks walks k v d i = with_job tasks (λ j. cut (graph_at tasks j) d (placed_walk tasks (task_at tasks k).priority walks j)) k v i
+abbrev pub job_walk_in_file_order : List Task → List (List ℕ) → ℕ → ℕ → ℕ → ℕ → List ℕ
+job_walk_in_file_order tasks walks k v d i = with_job tasks (λ j. cut (graph_at tasks j) d (walk_in_file_order tasks (task_at tasks k).priority walks j)) k v i

@@ -4,7 +4,7 @@ ghost use Rattle.drt_model.specs.Digraph.{vertex_count};
 ghost use Rattle.drt_busy.specs.Choice.{AreWalks, graph_at, task_at};
 ghost use Rattle.drt_releases.specs.Walks.{walk_at};
 ghost use Rattle.drt_fixed_task.specs.Answers.{IsTaskDecided};
-ghost use Rattle.drt_fixed_task.specs.Higher.{higher_before, job_walk, placed_walk};
+ghost use Rattle.drt_fixed_task.specs.Higher.{higher_before, job_walk_in_file_order, walk_in_file_order};
 ghost use Rattle.drt_fixed_task.specs.Subjects.{IsTaskGiven};
 ghost use Rattle.drt_fixed_task.specs.Walks.{LeaveNoTime};
 
@@ -38,7 +38,7 @@ pub(crate) fn refuse(
 ) -> Result<TaskAnswer, Memory>
     requires given { IsTaskGiven given }
     requires vertex { vertex < vertex_count (graph_at given.set.now.tasks given.task) }
-    requires walks { LeaveNoTime given.set.now.tasks (placed_walk given.set.now.tasks (task_at given.set.now.tasks given.task).priority walks.now) given.task vertex }
+    requires walks { LeaveNoTime given.set.now.tasks (walk_in_file_order given.set.now.tasks (task_at given.set.now.tasks given.task).priority walks.now) given.task vertex }
     ensures { IfOk result (IsTaskDecided given.entry.set.now.tasks given.entry.task) }
 {
     requests_miss();
@@ -65,9 +65,9 @@ pub(crate) fn refuse(
 // A walk for each task: for those of higher priority the one at its place, cut, and the vertex alone for the task itself.
 fn job_walks(alloc: Global, given: Given<'_>, cut: Cut<'_>) -> Result<Vec<Row<u32>>, Memory>
     requires given { IsTaskGiven given }
-    requires walks { AreWalks given.set.now.tasks (placed_walk given.set.now.tasks (task_at given.set.now.tasks given.task).priority cut.walks.now) }
+    requires walks { AreWalks given.set.now.tasks (walk_in_file_order given.set.now.tasks (task_at given.set.now.tasks given.task).priority cut.walks.now) }
     ensures count { IfOk result (λ all. length all.items ≡ length given.entry.set.now.tasks) }
-    ensures each { IfOk result (λ all. (i : ℕ) → i < length given.entry.set.now.tasks → walk_at all.items i ≡ job_walk given.entry.set.now.tasks cut.entry.walks.now given.entry.task cut.entry.vertex cut.entry.end i) }
+    ensures each { IfOk result (λ all. (i : ℕ) → i < length given.entry.set.now.tasks → walk_at all.items i ≡ job_walk_in_file_order given.entry.set.now.tasks cut.entry.walks.now given.entry.task cut.entry.vertex cut.entry.end i) }
 {
     let mut chosen = Vec::new(alloc);
     let mut place = 0;
@@ -89,10 +89,10 @@ fn job_walk(
     k: u32,
 ) -> Result<Row<u32>, Memory>
     requires given { IsTaskGiven given }
-    requires walks { AreWalks given.set.now.tasks (placed_walk given.set.now.tasks (task_at given.set.now.tasks given.task).priority cut.walks.now) }
+    requires walks { AreWalks given.set.now.tasks (walk_in_file_order given.set.now.tasks (task_at given.set.now.tasks given.task).priority cut.walks.now) }
     requires here { k < length given.set.now.tasks }
     requires place { place ≡ length (higher_before given.set.now.tasks (task_at given.set.now.tasks given.task).priority k) }
-    ensures { IfOk result (λ walk. walk ≡ job_walk given.entry.set.now.tasks cut.entry.walks.now given.entry.task cut.entry.vertex cut.entry.end k) }
+    ensures { IfOk result (λ walk. walk ≡ job_walk_in_file_order given.entry.set.now.tasks cut.entry.walks.now given.entry.task cut.entry.vertex cut.entry.end k) }
 {
     if is_higher(given.set, k, given.task) {
         return cut_walk(

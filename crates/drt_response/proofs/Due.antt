@@ -14,37 +14,37 @@ use Rattle.drt_releases.proofs.Walks.{graph_same}
 use Rattle.drt_releases.specs.Walks.{AreDueWalks}
 use Rattle.drt_busy.proofs.Cuts.{cut_walk}
 use Rattle.drt_releases.proofs.Cuts.{cut_due, one_due}
-use Rattle.drt_response.specs.Placed.{job_walk, placed_walk}
+use Rattle.drt_response.specs.Placed.{job_walk_in_priority_order, walk_in_priority_order}
 
 -- A walk of the graph that is due by t.
 abbrev IsDueWalk : Digraph → ℕ → List ℕ → Type 0
 IsDueWalk g t w = IsWalk g w × (due_of g w ≤ t)
 
 module _ (tasks : List Task) (walks : List (List ℕ)) (k v n : ℕ) where
-  pub walk_higher : (i : ℕ) → (task_at tasks i).priority < (task_at tasks k).priority → job_walk tasks walks k v n i ≡ cut (graph_at tasks i) n (placed_walk tasks walks i)
+  pub walk_higher : (i : ℕ) → (task_at tasks i).priority < (task_at tasks k).priority → job_walk_in_priority_order tasks walks k v n i ≡ cut (graph_at tasks i) n (walk_in_priority_order tasks walks i)
   unfolding with_job
   walk_higher i less = rw (lt-ltb (task_at tasks i).priority (task_at tasks k).priority less) refl
 
-  pub walk_here : (i : ℕ) → (task_at tasks k).priority ≤ (task_at tasks i).priority → i ≡ k → job_walk tasks walks k v n i ≡ v ∷ []
+  pub walk_here : (i : ℕ) → (task_at tasks k).priority ≤ (task_at tasks i).priority → i ≡ k → job_walk_in_priority_order tasks walks k v n i ≡ v ∷ []
   unfolding with_job
   walk_here i le e = rw (le-ltb (task_at tasks i).priority (task_at tasks k).priority le, eq-eqb i k e) refl
 
-  pub walk_nowhere : (i : ℕ) → (task_at tasks k).priority ≤ (task_at tasks i).priority → (i ≡ k → ⊥) → job_walk tasks walks k v n i ≡ []
+  pub walk_nowhere : (i : ℕ) → (task_at tasks k).priority ≤ (task_at tasks i).priority → (i ≡ k → ⊥) → job_walk_in_priority_order tasks walks k v n i ≡ []
   unfolding with_job
   walk_nowhere i le ne = rw (le-ltb (task_at tasks i).priority (task_at tasks k).priority le, ne_eqb i k ne) refl
 
-  module _ (graphs : AreGraphs (graphs_of tasks)) (are : AreWalks tasks (placed_walk tasks walks)) (here : k < length tasks) (vertex : v < vertex_count (graph_at tasks k)) (small : n ≤ most_time) where
+  module _ (graphs : AreGraphs (graphs_of tasks)) (are : AreWalks tasks (walk_in_priority_order tasks walks)) (here : k < length tasks) (vertex : v < vertex_count (graph_at tasks k)) (small : n ≤ most_time) where
     sound_at : (i : ℕ) → i < length tasks → IsSoundGraph (graph_at tasks i)
     sound_at i l = subst IsSoundGraph (graph_same tasks i l) (graphs.sound i no_graph (omega (arith, length-map tasks digraph_of)))
 
-    higher_due : (i : ℕ) → i < length tasks → IsDueWalk (graph_at tasks i) 2000000 (cut (graph_at tasks i) n (placed_walk tasks walks i))
+    higher_due : (i : ℕ) → i < length tasks → IsDueWalk (graph_at tasks i) 2000000 (cut (graph_at tasks i) n (walk_in_priority_order tasks walks i))
     higher_due i l =
         let g : Digraph = graph_at tasks i in
-        let w : List ℕ = placed_walk tasks walks i in
+        let w : List ℕ = walk_in_priority_order tasks walks i in
         let due : due_of g (cut g n w) ≤ n + most_time = cut_due g (sound_at i l) n w (are i l) in
         (cut_walk g n w (are i l), omega (arith, due, small))
 
-    job_due : (i : ℕ) → i < length tasks → IsDueWalk (graph_at tasks i) 2000000 (job_walk tasks walks k v n i)
+    job_due : (i : ℕ) → i < length tasks → IsDueWalk (graph_at tasks i) 2000000 (job_walk_in_priority_order tasks walks k v n i)
     unfolding with_job
     job_due i l = elim (cases_Bool (ltb (task_at tasks i).priority (task_at tasks k).priority)) [
       | inl h ↦ rw h (higher_due i l)
@@ -55,7 +55,7 @@ module _ (tasks : List Task) (walks : List (List ℕ)) (k v n : ℕ) where
     ]
 
     -- Walks that are the same.
-    pub due_walks : (others : ℕ → List ℕ) → ((i : ℕ) → i < length tasks → others i ≡ job_walk tasks walks k v n i) → (gs : List Digraph) → gs ≡ graphs_of tasks → AreDueWalks gs others 2000000
+    pub due_walks : (others : ℕ → List ℕ) → ((i : ℕ) → i < length tasks → others i ≡ job_walk_in_priority_order tasks walks k v n i) → (gs : List Digraph) → gs ≡ graphs_of tasks → AreDueWalks gs others 2000000
     due_walks others same gs is i l =
         let m : i < length tasks = omega (arith, l, ap length is, length-map tasks digraph_of) in
         let e : graph_of gs i ≡ graph_at tasks i = ap (λ xs. graph_of xs i) is ∙ graph_same tasks i m in

@@ -11,7 +11,7 @@ use Rattle.drt_claims.specs.Searches.{higher_places}
 use Rattle.drt_claims.specs.Trees.{by_priority, higher_count}
 use Rattle.drt_releases.specs.Walks.{walk_at}
 use Rattle.drt_check.proofs.SoundOrder.{AreWalked, Walked, ordered, ordered_tasks, tasks_of, walked}
-use Rattle.drt_response.specs.Placed.{placed_walk}
+use Rattle.drt_response.specs.Placed.{walk_in_priority_order}
 use Rattle.drt_response.proofs.Higher.{each_ordered, higher, higher_are, ordered_each, places_in, requests_together, walks_in}
 use Rattle.drt_response.proofs.Places.{AreAt, tasks_at}
 
@@ -46,9 +46,9 @@ module _ (place : ℕ → ℕ) (all : List (List ℕ)) where
 
 module _ (version : ℕ) (tasks : List Task) (limits : IsTaskSet version tasks) (k : ℕ) (task : k < length tasks) (walks : List (List ℕ))
     (each : AllZip IsWalk (graphs_of_places (higher_places tasks (task_at tasks k))) walks) where
-  both : (walks_in (higher tasks (placed_walk tasks walks) k) ≡ walks) × AreWalked (ordered (walked tasks (placed_walk tasks walks)))
+  both : (walks_in (higher tasks (walk_in_priority_order tasks walks) k) ≡ walks) × AreWalked (ordered (walked tasks (walk_in_priority_order tasks walks)))
   both =
-      let chosen : ℕ → List ℕ = placed_walk tasks walks in
+      let chosen : ℕ → List ℕ = walk_in_priority_order tasks walks in
       let xs : List Walked = ordered (walked tasks chosen) in
       let at : AreAt (higher_count tasks) 0 (tasks_of xs) = subst (λ ts. AreAt (higher_count tasks) 0 ts) (sym (ordered_tasks tasks chosen)) (tasks_at version tasks limits) in
       let placed : HavePlaced (higher_count tasks) walks xs = ordered_each (λ x. x.1 ≡ walk_at walks (higher_count tasks x.0.priority)) tasks chosen (λ j l. refl) in
@@ -57,13 +57,13 @@ module _ (version : ℕ) (tasks : List Task) (limits : IsTaskSet version tasks) 
       first_placed (higher_count tasks) walks tasks 0 (higher_count tasks (task_at tasks k).priority) xs walks here at placed same
 
   -- There is a walk of each task.
-  pub placed_are_walks : AreWalks tasks (placed_walk tasks walks)
-  placed_are_walks j l = each_ordered (λ x. IsWalk (digraph_of x.0) x.1) tasks (placed_walk tasks walks) both.1 j l
+  pub placed_are_walks : AreWalks tasks (walk_in_priority_order tasks walks)
+  placed_are_walks j l = each_ordered (λ x. IsWalk (digraph_of x.0) x.1) tasks (walk_in_priority_order tasks walks) both.1 j l
 
   -- What they ask for is what the list asks for.
-  pub placed_asked : (t : ℕ) → requests tasks (placed_walk tasks walks) (task_at tasks k).priority (length tasks) t ≡ asked_together (graphs_of_places (higher_places tasks (task_at tasks k))) walks t
+  pub placed_asked : (t : ℕ) → requests tasks (walk_in_priority_order tasks walks) (task_at tasks k).priority (length tasks) t ≡ asked_together (graphs_of_places (higher_places tasks (task_at tasks k))) walks t
   placed_asked t =
-      let chosen : ℕ → List ℕ = placed_walk tasks walks in
+      let chosen : ℕ → List ℕ = walk_in_priority_order tasks walks in
       let ps = ap (λ qs. asked_together (graphs_of_places qs) walks t) (sym (higher_are tasks chosen k task)) in
       let ws = ap (λ us. asked_together (graphs_of_places (places_in tasks (higher tasks chosen k))) us t) both.0 in
       requests_together tasks chosen k t ∙ (ws ∙ ps)

@@ -26,7 +26,7 @@ use Rattle.drt_fixed.proofs.Prefixes.{zip_take}
 use Rattle.drt_sp_states.specs.Answers.{AreWorst}
 use Rattle.drt_response.specs.Tails.{HaveTails}
 use Rattle.drt_response.specs.Answers.{IsResponseOf}
-use Rattle.drt_response.specs.Placed.{placed_walk}
+use Rattle.drt_response.specs.Placed.{walk_in_priority_order}
 use Rattle.drt_response.proofs.Higher.{first_walks, higher, higher_are, higher_near, higher_sound, places_in, requests_together, walks_in}
 use Rattle.drt_response.proofs.Placed.{placed_are_walks, placed_asked}
 
@@ -51,11 +51,11 @@ module _ (version : ℕ) (tasks : List Task) (limits : IsTaskSet version tasks) 
       let fits = found.3 in
       (t, found.1, found.2, omega (arith, fits, requests_together tasks others k t))
 
-  pub are_walks : AreWalks tasks (placed_walk tasks walks)
+  pub are_walks : AreWalks tasks (walk_in_priority_order tasks walks)
   are_walks = placed_are_walks version tasks limits k task walks worst.each
 
   -- The number is the least time that has room for the walks found.
-  least : IsLeastFit tasks (placed_walk tasks walks) k v ticks
+  least : IsLeastFit tasks (walk_in_priority_order tasks walks) k v ticks
   least =
       let asked = placed_asked version tasks limits k task walks worst.each in
       record {
@@ -69,11 +69,11 @@ module _ (version : ℕ) (tasks : List Task) (limits : IsTaskSet version tasks) 
 
   -- It is the greatest response, and their releases reach it.
   pub states_respond : StatesPass → ResponseDecides → ReleasesReach → AreConstrained tasks → Schedulable tasks Fixed
-      → IsGreatestResponse tasks k v ticks × AreReachingReleases tasks k v ticks (reaching tasks (placed_walk tasks walks) k v ticks)
+      → IsGreatestResponse tasks k v ticks × AreReachingReleases tasks k v ticks (reaching tasks (walk_in_priority_order tasks walks) k v ticks)
   states_respond pass decides reach constrained schedulable =
       let meets : MeetsDeadlines tasks k = λ rs legal j here of. schedulable rs legal j here in
-      let fit : IsGreatestFit tasks k v ticks = record { walks = placed_walk tasks walks; are = are_walks; least = least; most = most pass } in
-      let (legal, (job, here, finish)) = reach version tasks limits constrained k v task vertex meets (placed_walk tasks walks) are_walks ticks least in
+      let fit : IsGreatestFit tasks k v ticks = record { walks = walk_in_priority_order tasks walks; are = are_walks; least = least; most = most pass } in
+      let (legal, (job, here, finish)) = reach version tasks limits constrained k v task vertex meets (walk_in_priority_order tasks walks) are_walks ticks least in
       ((decides version tasks limits constrained k v task vertex meets ticks).1 fit, record { legal = legal; job = job; here = here; finish = finish })
 
   -- The number is within the limits of a deadline.
@@ -84,16 +84,16 @@ module _ (version : ℕ) (tasks : List Task) (limits : IsTaskSet version tasks) 
 
   -- With these releases it is the response of the vertex.
   pub response_is : StatesPass → ResponseDecides → ReleasesReach → AreConstrained tasks → Schedulable tasks Fixed
-      → (set : Contents) (n : ℕ) (releases : List Release) → tasks ≡ set.tasks → n ≡ ticks → releases ≡ reaching tasks (placed_walk tasks walks) k v n
+      → (set : Contents) (n : ℕ) (releases : List Release) → tasks ≡ set.tasks → n ≡ ticks → releases ≡ reaching tasks (walk_in_priority_order tasks walks) k v n
       → IsResponseOf set (record { task = k; vertex = v; ticks = ticks; releases = releases })
   response_is pass decides reach constrained schedulable set n releases same is are =
-      let releases_are : releases ≡ reaching tasks (placed_walk tasks walks) k v ticks = are ∙ ap (λ (m : ℕ). reaching tasks (placed_walk tasks walks) k v m) is in
+      let releases_are : releases ≡ reaching tasks (walk_in_priority_order tasks walks) k v ticks = are ∙ ap (λ (m : ℕ). reaching tasks (walk_in_priority_order tasks walks) k v m) is in
       let shown = states_respond pass decides reach constrained schedulable in
       let reached : AreReachingReleases tasks k v ticks releases = subst (λ (rs : List Release). AreReachingReleases tasks k v ticks rs) (sym releases_are) shown.1 in
       record {
         greatest = subst (λ (ts : List Task). IsGreatestResponse ts k v ticks) same shown.0;
         reaching = subst (λ (ts : List Task). AreReachingReleases ts k v ticks releases) same reached;
-        walks = placed_walk tasks walks;
-        are = subst (λ (ts : List Task). AreWalks ts (placed_walk tasks walks)) same are_walks;
-        releases_are = releases_are ∙ ap (λ (ts : List Task). reaching ts (placed_walk tasks walks) k v ticks) same;
+        walks = walk_in_priority_order tasks walks;
+        are = subst (λ (ts : List Task). AreWalks ts (walk_in_priority_order tasks walks)) same are_walks;
+        releases_are = releases_are ∙ ap (λ (ts : List Task). reaching ts (walk_in_priority_order tasks walks) k v ticks) same;
       }

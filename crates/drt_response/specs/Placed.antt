@@ -8,9 +8,9 @@ use Rattle.drt_claims.specs.Trees.{higher_count}
 use Rattle.drt_releases.specs.Walks.{walk_at}
 
 -- The walk of task k: it stands at the place that is the number of the tasks of higher priority. No walk past the end of the list.
-abbrev pub placed_walk : List Task → List (List ℕ) → ℕ → List ℕ
-placed_walk tasks walks k = walk_at walks (higher_count tasks (task_at tasks k).priority)
+abbrev pub walk_in_priority_order : List Task → List (List ℕ) → ℕ → List ℕ
+walk_in_priority_order tasks walks k = walk_at walks (higher_count tasks (task_at tasks k).priority)
 
 -- These walks beside vertex v of task k, cut at n ticks.
-abbrev pub job_walk : List Task → List (List ℕ) → ℕ → ℕ → ℕ → ℕ → List ℕ
-job_walk tasks walks k v n i = with_job tasks (λ j. cut (graph_at tasks j) n (placed_walk tasks walks j)) k v i
+abbrev pub job_walk_in_priority_order : List Task → List (List ℕ) → ℕ → ℕ → ℕ → ℕ → List ℕ
+job_walk_in_priority_order tasks walks k v n i = with_job tasks (λ j. cut (graph_at tasks j) n (walk_in_priority_order tasks walks j)) k v i

@@ -5,7 +5,7 @@ ghost use Rattle.drt_model.specs.Digraph.{vertex_count};
 ghost use Rattle.drt_busy.specs.Choice.{AreWalks, graph_at};
 ghost use Rattle.drt_busy.specs.Response.{reaching};
 ghost use Rattle.drt_releases.specs.Walks.{walk_at};
-ghost use Rattle.drt_response.specs.Placed.{job_walk, placed_walk};
+ghost use Rattle.drt_response.specs.Placed.{job_walk_in_priority_order, walk_in_priority_order};
 
 use crate::subjects::{VertexAt, higher_count};
 use drt_accepted::Accepted;
@@ -31,11 +31,11 @@ pub(crate) fn reaching_releases(
     walks: &[Row<u32>],
     job: FirstJob,
 ) -> Result<Row<Release>, Memory>
-    requires walks { AreWalks set.now.tasks (placed_walk set.now.tasks walks.now) }
+    requires walks { AreWalks set.now.tasks (walk_in_priority_order set.now.tasks walks.now) }
     requires task { job.at.task < length set.now.tasks }
     requires vertex { job.at.vertex < vertex_count (graph_at set.now.tasks job.at.task) }
     requires finish { job.finish ≤ most_time }
-    ensures { IfOk result (λ releases. releases ≡ reaching set.now.tasks (placed_walk set.now.tasks walks.now) job.at.task job.at.vertex job.finish) }
+    ensures { IfOk result (λ releases. releases ≡ reaching set.now.tasks (walk_in_priority_order set.now.tasks walks.now) job.at.task job.at.vertex job.finish) }
 {
     let graphs = set.graphs();
     graphs.keep_limits();
@@ -52,10 +52,10 @@ fn job_walks(
     walks: &[Row<u32>],
     job: FirstJob,
 ) -> Result<Vec<Row<u32>>, Memory>
-    requires walks { AreWalks set.now.tasks (placed_walk set.now.tasks walks.now) }
+    requires walks { AreWalks set.now.tasks (walk_in_priority_order set.now.tasks walks.now) }
     requires task { job.at.task < length set.now.tasks }
     ensures count { IfOk result (λ chosen. length chosen.items ≡ length set.now.tasks) }
-    ensures each { IfOk result (λ chosen. (k : ℕ) → k < length set.now.tasks → walk_at chosen.items k ≡ job_walk set.now.tasks walks.now job.at.task job.at.vertex job.finish k) }
+    ensures each { IfOk result (λ chosen. (k : ℕ) → k < length set.now.tasks → walk_at chosen.items k ≡ job_walk_in_priority_order set.now.tasks walks.now job.at.task job.at.vertex job.finish k) }
 {
     let graphs = set.graphs();
     let mut chosen = Vec::new(alloc);
@@ -73,10 +73,10 @@ fn job_walk(
     job: FirstJob,
     k: u32,
 ) -> Result<Row<u32>, Memory>
-    requires walks { AreWalks set.now.tasks (placed_walk set.now.tasks walks.now) }
+    requires walks { AreWalks set.now.tasks (walk_in_priority_order set.now.tasks walks.now) }
     requires task { job.at.task < length set.now.tasks }
     requires here { k < length set.now.tasks }
-    ensures { IfOk result (λ walk. walk ≡ job_walk set.now.tasks walks.now job.at.task job.at.vertex job.finish k) }
+    ensures { IfOk result (λ walk. walk ≡ job_walk_in_priority_order set.now.tasks walks.now job.at.task job.at.vertex job.finish k) }
 {
     let tasks = set.tasks();
     let graphs = set.graphs();

@@ -8,7 +8,7 @@ use Rattle.drt_busy.specs.Choice.{graph_at, task_at}
 use Rattle.drt_busy.specs.Response.{cut}
 use Rattle.drt_releases.specs.Walks.{walk_at}
 use Rattle.drt_releases.proofs.Walks.{graph_same}
-use Rattle.drt_fixed_task.specs.Higher.{placed_walk}
+use Rattle.drt_fixed_task.specs.Higher.{walk_in_file_order}
 use Rattle.drt_fixed_task.proofs.Due.{walk_here, walk_higher, walk_nowhere}
 use Rattle.drt_fixed_task.proofs.Placed.{placed_here}
 use Rattle.drt_fixed_task.proofs.Vertices.{if_ok_more}
@@ -24,7 +24,7 @@ returns-then-is_higher c =
     let end : ℕ = c.args.cut.end in
     let above : ltb (task_at tasks k).priority p ≡ true = sym c.is_higher.ensures ∙ c.if-is_higher.true in
     let graph : c.graph.result.now ≡ graph_at tasks k = c.graph.ensures.graph ∙ (ap (λ gs. graph_of gs k) c.graphs.ensures.graphs ∙ graph_same tasks k c.requires.here) in
-    let walk : c.walk_of.result.now ≡ placed_walk tasks p walks k = c.walk_of.ensures ∙ (ap (λ (i : ℕ). walk_at walks i) c.requires.place ∙ sym (placed_here tasks p walks k above)) in
+    let walk : c.walk_of.result.now ≡ walk_in_file_order tasks p walks k = c.walk_of.ensures ∙ (ap (λ (i : ℕ). walk_at walks i) c.requires.place ∙ sym (placed_here tasks p walks k above)) in
     let same = ap (λ (g : Digraph). cut g end c.walk_of.result.now) graph ∙ ap (λ (w : List ℕ). cut (graph_at tasks k) end w) walk in
     if_ok_more _ _ c.cut_walk.result (λ row is. is ∙ (same ∙ sym (walk_higher tasks walks c.args.given.task c.args.cut.vertex end k above))) c.cut_walk.ensures
 

@@ -4,7 +4,7 @@ use Rattle.std.proofs.Math.Numerals.{add-one}
 use Rattle.std.proofs.lemmas.List.{length-append}
 use Rattle.drt_model.specs.declared.tasks.Task.{Task}
 use Rattle.drt_busy.specs.Choice.{task_at}
-use Rattle.drt_fixed_task.specs.Higher.{higher_before, job_walk}
+use Rattle.drt_fixed_task.specs.Higher.{higher_before, job_walk_in_file_order}
 use Rattle.drt_fixed_task.proofs.HigherTasks.{higher_few, higher_no, higher_yes}
 use Rattle.drt_fixed_task.proofs.Lists.{push_each}
 use Rattle.drt_fixed_task.proofs.refusal.job_walks.Goals.{then-is_higher, else-is_higher}
@@ -24,7 +24,7 @@ tasks-preserved c =
     let items = c.in_ok-push.ensures.items in
     let before = c.tasks.invariant in
     let long : length (higher_before tasks p (k + 1)) ≡ length (higher_before tasks p (suc k)) = ap (λ (n : ℕ). length (higher_before tasks p n)) (add-one k) in
-    let chosen : ℕ → List ℕ = job_walk tasks c.args.cut.walks.now c.args.given.task c.args.cut.vertex c.args.cut.end in
+    let chosen : ℕ → List ℕ = job_walk_in_file_order tasks c.args.cut.walks.now c.args.given.task c.args.cut.vertex c.args.cut.end in
     record {
       place = elim c.if-is_higher.branch [
         | then-is_higher w ↦

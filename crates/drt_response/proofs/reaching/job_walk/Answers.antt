@@ -9,7 +9,7 @@ use Rattle.drt_releases.specs.Walks.{walk_at}
 use Rattle.drt_releases.proofs.Walks.{graph_same}
 use Rattle.drt_tree.proofs.Trees.{if_ok_more}
 use Rattle.drt_busy.specs.Response.{cut}
-use Rattle.drt_response.specs.Placed.{placed_walk}
+use Rattle.drt_response.specs.Placed.{walk_in_priority_order}
 use Rattle.drt_response.proofs.Due.{walk_here, walk_higher, walk_nowhere}
 use Rattle.drt_response.proofs.reaching.job_walk.Goals.{then-k-job+in_ok-push, else-k-job}
 use Rattle.drt_response.proofs.reaching.job_walk.Goals as goal
@@ -29,7 +29,7 @@ cut_walk-requires c =
     let b : get_or c.tasks-tasks.result.now j u ≡ task_at tasks j = ap (λ (ts : List Task). get_or ts j u) e ∙ get_or_default tasks j u no_task c.requires.task in
     let place : c.higher_count.result ≡ higher_count tasks (task_at tasks k).priority
     = c.higher_count.ensures ∙ (ap (λ (x : Task). higher_count c.tasks-tasks.result.now x.priority) a ∙ ap (λ (ts : List Task). higher_count ts (task_at tasks k).priority) e) in
-    let walk : c.walk_of-walk.result.now ≡ placed_walk tasks walks k = c.walk_of-walk.ensures ∙ ap (λ (i : ℕ). walk_at walks i) place in
+    let walk : c.walk_of-walk.result.now ≡ walk_in_priority_order tasks walks k = c.walk_of-walk.ensures ∙ ap (λ (i : ℕ). walk_at walks i) place in
     let graph : c.graph.result.now ≡ graph_at tasks k = c.graph.ensures.graph ∙ (ap (λ gs. graph_of gs k) c.graphs-graphs.ensures.graphs ∙ graph_same tasks k c.requires.here) in
     record { walk = rw (graph, walk) (c.requires.walks k c.requires.here) }
 
@@ -48,7 +48,7 @@ returns-then-priority-tasks c =
     let b : get_or c.tasks-tasks.result.now j u ≡ task_at tasks j = ap (λ (ts : List Task). get_or ts j u) e ∙ get_or_default tasks j u no_task c.requires.task in
     let place : c.higher_count.result ≡ higher_count tasks (task_at tasks k).priority
     = c.higher_count.ensures ∙ (ap (λ (x : Task). higher_count c.tasks-tasks.result.now x.priority) a ∙ ap (λ (ts : List Task). higher_count ts (task_at tasks k).priority) e) in
-    let walk : c.walk_of-walk.result.now ≡ placed_walk tasks walks k = c.walk_of-walk.ensures ∙ ap (λ (i : ℕ). walk_at walks i) place in
+    let walk : c.walk_of-walk.result.now ≡ walk_in_priority_order tasks walks k = c.walk_of-walk.ensures ∙ ap (λ (i : ℕ). walk_at walks i) place in
     let graph : c.graph.result.now ≡ graph_at tasks k = c.graph.ensures.graph ∙ (ap (λ gs. graph_of gs k) c.graphs-graphs.ensures.graphs ∙ graph_same tasks k c.requires.here) in
     let less : (task_at tasks k).priority < (task_at tasks j).priority = omega (arith, c.if-priority-tasks.true, ap (λ (x : Task). x.priority) a, ap (λ (x : Task). x.priority) b) in
     let same = ap (λ g. cut g n c.walk_of-walk.result.now) graph ∙ ap (λ (w : List ℕ). cut (graph_at tasks k) n w) walk in
