@@ -9,8 +9,10 @@
 #![tactic(auto)]
 
 mod evidence;
+mod limits;
 mod rule;
 
 pub use drt_graph::FrontEntry;
 pub use evidence::{Dossier, Evidence, Item, Pair, ProofClaim, RatioClaim, TreeClaim};
+pub use limits::{MOST_NUMBER, MOST_PART, MOST_TICKS, MOST_WORK};
 pub use rule::Rule;

@@ -73,9 +73,9 @@ fn describe(alloc: Global, set: &TaskSet, task: u32, edge: u32) -> Result<PastEd
     let at = of.edges.as_slice()[edge as usize];
     let source = &of.vertices.as_slice()[at.from as usize];
     let target = &of.vertices.as_slice()[at.to as usize];
-    let task = copy_name(alloc, &of.name)?;
-    let from = copy_name(alloc, &source.name)?;
-    let to = copy_name(alloc, &target.name)?;
+    let task = of.name.copy(alloc)?;
+    let from = source.name.copy(alloc)?;
+    let to = target.name.copy(alloc)?;
     Ok(PastEdge {
         task,
         from,
@@ -84,10 +84,6 @@ fn describe(alloc: Global, set: &TaskSet, task: u32, edge: u32) -> Result<PastEd
         deadline: source.deadline,
     })
 }
-
-// A copy of a name.
-fn copy_name(alloc: Global, name: &Name) -> Result<Name, Memory>
-    ensures { IfOk result (λ copy. copy ≡ name.now) }
 {
     Ok(Name::from_vec(Vec::from_slice(alloc, name.as_slice())?))
 }

@@ -2,16 +2,12 @@
 ghost use Rattle.std.specs.Prelude.{◌↔◌, All, IsTrue};
 ghost use Rattle.drt_claims.specs.Ranges.{IsEvidenceInRange, IsInRangeCurve, IsInRangeEnd, IsInRangeJump, IsInRangeMiss, IsInRangeRelease, IsInRangeSearch, IsInRangeState, IsInRangeStateEntry, IsInRangeTail, IsNumber};
 
-use drt_claims::Evidence;
+use drt_claims::{Evidence, MOST_NUMBER, MOST_TICKS, MOST_WORK};
 use drt_model::{Miss, Release, Row};
 use drt_states::{Jump, SearchClaim, StateClaim, StateEnd, StateEntry, TailClaim};
 
 // The greatest count of a list.
-const MOST_ITEMS: usize = 4_294_967_295;
-// The greatest offset, time or need, in ticks.
-const MOST_TICKS: u64 = 1_000_000_000_000_000_000;
-// The greatest work, in ticks.
-const MOST_WORK: u64 = 2_000_000_000_000_000_000;
+const MOST_ITEMS: usize = MOST_NUMBER as usize;
 
 /// Whether this is evidence by tails and states or of a no, with its numbers in range.
 pub(crate) fn is_in_range(evidence: &Evidence) -> bool

@@ -4,7 +4,7 @@ ghost use Rattle.std.specs.List.{range_with_len};
 ghost use Rattle.drt_model.specs.Digraph.{IsSoundGraph, digraph_of, edges_from};
 
 use crate::graph::Graph;
-use drt_model::{Edge, Memory, Name, Task, Vertex};
+use drt_model::{Edge, Memory, Task, copy_vertices};
 use std::alloc::Global;
 
 /// The graphs of the tasks, in order.
@@ -29,28 +29,6 @@ fn graph_of(alloc: Global, task: &Task) -> Result<Graph, Memory>
     let vertices = copy_vertices(alloc, task.vertices.as_slice())?;
     let out = rows_of(alloc, vertices.len(), task.edges.as_slice())?;
     Ok(Graph { vertices, out })
-}
-
-/// A copy of the vertices.
-pub fn copy_vertices(alloc: Global, vertices: &[Vertex]) -> Result<Vec<Vertex>, Memory>
-    ensures { IfOk result (λ copies. copies.items ≡ vertices.now) }
-{
-    let mut copies = Vec::with_capacity(alloc, vertices.len())?;
-    for vertex in vertices {
-        copies.push(copy_vertex(alloc, vertex)?)?;
-    }
-    Ok(copies)
-}
-
-fn copy_vertex(alloc: Global, vertex: &Vertex) -> Result<Vertex, Memory>
-    ensures { IfOk result (λ copy. copy ≡ vertex.now) }
-{
-    let name = Name::from_vec(Vec::from_slice(alloc, vertex.name.as_slice())?);
-    Ok(Vertex {
-        name,
-        wcet: vertex.wcet,
-        deadline: vertex.deadline,
-    })
 }
 
 // The edges out of each of `count` vertices, in order: one pass over the edges.

@@ -3,8 +3,7 @@ ghost use Rattle.std.specs.Prelude.{◌≡◌, ◌<◌, IfOk, map};
 ghost use Rattle.drt_model.specs.Digraph.{IsSoundGraph, vertex_count, vertex_of, out_degree, edge_of};
 ghost use Rattle.drt_model.specs.Walk.{sep, sep_in};
 
-use crate::building::copy_vertices;
-use drt_model::{Edge, Memory, Vertex};
+use drt_model::{Edge, Memory, Vertex, copy_vertices};
 use std::alloc::Global;
 use std::marker::Model;
 

@@ -6,6 +6,7 @@
 //! of an analysis. The layer above uses `legal`, the types and these definitions.
 #![tactic(auto)]
 
+pub mod copying;
 pub mod jobs;
 pub mod limits;
 pub mod name;
@@ -14,8 +15,9 @@ pub mod releases;
 pub mod row;
 pub mod tasks;
 
+pub use copying::copy_vertices;
 pub use jobs::{Job, Miss, Policy, Release};
-pub use limits::task_set;
+pub use limits::{MOST_TIME, MOST_VERTICES, task_set};
 pub use name::Name;
 pub use plain::plain_trace;
 pub use releases::legal;

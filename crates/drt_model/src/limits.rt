@@ -5,6 +5,12 @@ ghost use Rattle.drt_model.specs.Limits.{IsNameByte, IsName, IsTime, IsPriority,
 use crate::row::Row;
 use crate::tasks::{Edge, Task, TaskSet, Vertex};
 
+/// The greatest time of a file, in ticks.
+pub const MOST_TIME: u32 = 1_000_000;
+
+/// The most vertices of a task.
+pub const MOST_VERTICES: usize = 96;
+
 /// The set of this version and these tasks; `None` exactly where they break a limit of that version.
 pub fn task_set(version: u8, tasks: Row<Task>) -> Option<TaskSet>
     ensures kept { IfSome result (λ set. (set.version ≡ version) × (set.tasks ≡ tasks)) }

@@ -9,7 +9,8 @@ ghost use Rattle.drt_evidence.specs.LineForms.{AreItemsCounted, IsFieldForm};
 ghost use Rattle.drt_claims.specs.Ranges.{IsInRangeJump, IsInRangeStateEntry};
 ghost use Rattle.drt_evidence.specs.Some.{entry_spaced, jump_spaced};
 
-use crate::reading::fields::{Field, MOST_TICKS, MOST_WORK, cut_field, number_of};
+use crate::reading::fields::{Field, cut_field, number_of};
+use drt_claims::{MOST_TICKS, MOST_WORK};
 use drt_model::{Memory, Row};
 use drt_states::{Jump, StateEntry};
 use std::alloc::Global;

@@ -7,16 +7,8 @@ ghost use Rattle.drt_evidence.specs.LineForms.{AreBoth, HasNoSpace, IsAny, IsFor
 ghost use Rattle.drt_claims.specs.Ranges.{IsInRangeItem, IsInRangePotential, IsNumber, IsTick};
 ghost use Rattle.drt_evidence.specs.Text.{item_field};
 
-use drt_claims::Item;
+use drt_claims::{Item, MOST_NUMBER, MOST_TICKS};
 
-/// The greatest number of a vertex, a task, a job or a place, and the greatest count.
-pub(crate) const MOST_NUMBER: u64 = 4_294_967_295;
-/// The greatest offset, time, need or deadline, in ticks.
-pub(crate) const MOST_TICKS: u64 = 1_000_000_000_000_000_000;
-/// The greatest work, in ticks.
-pub(crate) const MOST_WORK: u64 = 2_000_000_000_000_000_000;
-/// The greatest numerator and denominator of a ratio.
-pub(crate) const MOST_PART: u64 = 1_000_000_000;
 /// The greatest size of a potential.
 const MOST_HEIGHT: u64 = 10_000_000_000_000_000;
 

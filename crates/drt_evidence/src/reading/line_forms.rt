@@ -9,9 +9,9 @@ ghost use Rattle.drt_claims.specs.Ranges.{IsInRangeEntry, IsInRangeMiss, IsInRan
 ghost use Rattle.drt_evidence.specs.Text.{count_line, entry_line, miss_line, pair_line, release_line, word_line};
 
 use crate::reading::fields::{
-    MOST_NUMBER, MOST_PART, MOST_TICKS, MOST_WORK, behind_word, cut_field, index_of, number_of,
+    behind_word, cut_field, index_of, number_of,
 };
-use drt_claims::Pair;
+use drt_claims::{MOST_NUMBER, MOST_PART, MOST_TICKS, MOST_WORK, Pair};
 use drt_graph::FrontEntry;
 use drt_model::{Miss, Policy, Release};
 

@@ -8,9 +8,9 @@ ghost use Rattle.drt_claims.specs.Ranges.{IsInRangeCurve, IsInRangeEnd, IsInRang
 ghost use Rattle.drt_evidence.specs.Text.{curve_line, state_line};
 
 use crate::reading::cuts::{cut_list, cut_number, cut_one};
-use crate::reading::fields::{MOST_WORK, behind_word};
+use crate::reading::fields::behind_word;
 use crate::reading::list_lines::values_behind;
-use drt_claims::Item;
+use drt_claims::{Item, MOST_WORK};
 use drt_model::{Memory, Row};
 use drt_states::{Jump, StateClaim, StateEnd, StateEntry};
 use std::alloc::Global;

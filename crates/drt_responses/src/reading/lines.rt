@@ -9,12 +9,8 @@ ghost use Rattle.drt_evidence.specs.Text.{count_line, release_line};
 ghost use Rattle.drt_responses.specs.Rows.{IsInRangeHeading, IsInRangeOpening, first_words, heading_line, opening_line};
 
 use crate::reading::fields::{behind_word, cut_field, number_of};
+use drt_claims::{MOST_NUMBER, MOST_TICKS};
 use drt_model::Release;
-
-// The greatest number of a task or a vertex, and the greatest count.
-const MOST_NUMBER: u64 = 4_294_967_295;
-// The greatest time and the greatest need of a release, in ticks.
-const MOST_TICKS: u64 = 1_000_000_000_000_000_000;
 
 /// The task, the vertex and the ticks of a response, as its first line says them.
 #[derive(Debug, Clone, Copy, PartialEq, Eq)]

@@ -1,5 +1,5 @@
 use Rattle.std.proofs.Common.{◌≡◌, take}
-use Rattle.drt_graph.proofs.building.copy_vertices.Given as goal
+use Rattle.drt_model.proofs.copying.copy_vertices.Given as goal
 
 abbrev pub invariant-loop-vertex : goal.invariant-loop-vertex
 invariant-loop-vertex l = l.copies.items ≡ take l.vertex-index l.vertices
