@@ -39,7 +39,7 @@ pub record IsYesOf (set : Contents) (dossier : Statement) : Type 0 where
   pub yes : IsYes set evidence
 
 -- An order: the dossier says yes of the set with the priorities by the rule.
-pub record IsAssigned (tasks : List Task) (dossier : Statement) : Type 0 where
+pub record IsOrderFound (tasks : List Task) (dossier : Statement) : Type 0 where
   pub priorities : List ℕ
   pub by_rule : AreByRule tasks priorities
   pub proved : IsYesOf (with_priorities tasks priorities) dossier
@@ -122,7 +122,7 @@ pub record IsUnproved (tasks : List Task) (budget : ℕ) (ordered : Contents) (t
 
 -- What each answer says, with a budget.
 abbrev pub IsAssigned : Contents → ℕ → AssignAnswer → Type 0
-IsAssigned set budget (answers.Done dossier) = IsAssigned set.tasks dossier
+IsAssigned set budget (answers.Done dossier) = IsOrderFound set.tasks dossier
 IsAssigned set budget (answers.NoOrder same stuck) = IsNoOrder set same stuck
 IsAssigned set budget (answers.Undecided same higher task trail) = IsUndecidedOrder set budget same higher task trail
 IsAssigned set budget (answers.Unproved ordered trail) = IsUnproved set.tasks budget ordered trail

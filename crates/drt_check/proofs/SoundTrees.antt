@@ -8,7 +8,7 @@ use Rattle.std.proofs.lemmas.List.{get_or-map, get_or_append_left, get_or_at, le
 use Rattle.std.proofs.lemmas.List.Sums.{sum_by-cons}
 use Rattle.std.proofs.lemmas.Option.{none-some, same_Some, slice_get_within}
 use Rattle.drt_model.specs.Digraph.{Digraph}
-use Rattle.drt_claims.specs.Proofs.{parts_in, parts_of}
+use Rattle.drt_claims.specs.Proofs.{node_parts, parts_of}
 use Rattle.drt_claims.specs.Trees.{IsTree, asked, joined, named, node_values, root}
 use Rattle.drt_claims.specs.declared.evidence.Pair.{Pair}
 use Rattle.drt_claims.specs.declared.evidence.TreeClaim.{TreeClaim}
@@ -16,7 +16,7 @@ use Rattle.drt_claims.specs.declared.evidence.TreeClaim.{TreeClaim}
 -- The leaf is the node, or it is under one of the node's parts.
 pub data IsUnder (tree : TreeClaim) (leaf : ℕ) : ℕ → Type 0 where
   itself : (n : ℕ) → n ≡ leaf → IsUnder tree leaf n
-  below : (n m : ℕ) (p : ℕ × ℕ) → parts_in tree n ≡ Some p → (m ≡ p.0) ⊎ (m ≡ p.1) → IsUnder tree leaf m → IsUnder tree leaf n
+  below : (n m : ℕ) (p : ℕ × ℕ) → node_parts tree n ≡ Some p → (m ≡ p.0) ⊎ (m ≡ p.1) → IsUnder tree leaf m → IsUnder tree leaf n
 
 -- The pair that gives a node its parts.
 pub record IsPairAt (tree : TreeClaim) (n : ℕ) (p : ℕ × ℕ) : Type 0 where
@@ -32,7 +32,7 @@ pair_of (Some q) p e =
     let same : (q.left, q.right) ≡ p = same_Some (q.left, q.right) p e in
     (q, refl, ap (λ x. x.0) same, ap (λ x. x.1) same)
 
-pub pair_at : (tree : TreeClaim) (n : ℕ) (p : ℕ × ℕ) → parts_in tree n ≡ Some p → IsPairAt tree n p
+pub pair_at : (tree : TreeClaim) (n : ℕ) (p : ℕ × ℕ) → node_parts tree n ≡ Some p → IsPairAt tree n p
 pair_at tree n p e = go (cases_lt n (length tree.walks))
   where
     go : (n < length tree.walks) ⊎ (length tree.walks ≤ n) → IsPairAt tree n p
@@ -45,14 +45,14 @@ pair_at tree n p e = go (cases_lt n (length tree.walks))
         record { pair = q.0; after = l; at = q.1; left = q.2; right = q.3 }
 
 -- A pair's parts.
-pub parts_at : (tree : TreeClaim) (i : ℕ) (p : Pair) → slice_get tree.pairs i ≡ Some p → parts_in tree (length tree.walks + i) ≡ Some (p.left, p.right)
+pub parts_at : (tree : TreeClaim) (i : ℕ) (p : Pair) → slice_get tree.pairs i ≡ Some p → node_parts tree (length tree.walks + i) ≡ Some (p.left, p.right)
 parts_at tree i p e =
     let t : nat_lt (length tree.walks + i) (length tree.walks) ≡ false = le-ltb (length tree.walks + i) (length tree.walks) (omega arith) in
     let s : (length tree.walks + i) - length tree.walks ≡ i = omega arith in
     rw (t, s, e) refl
 
 -- A leaf under a pair is under one of its parts.
-pub under_part : (tree : TreeClaim) (leaf n : ℕ) (p : ℕ × ℕ) → leaf < length tree.walks → IsUnder tree leaf n → parts_in tree n ≡ Some p
+pub under_part : (tree : TreeClaim) (leaf n : ℕ) (p : ℕ × ℕ) → leaf < length tree.walks → IsUnder tree leaf n → node_parts tree n ≡ Some p
     → IsUnder tree leaf p.0 ⊎ IsUnder tree leaf p.1
 under_part tree leaf n p l (itself k e) at = absurd (let q = pair_at tree n p at in let a = q.after in omega (arith, a, e, l))
 under_part tree leaf n p l (below k m q named which under) at = go which

@@ -4,7 +4,7 @@ use Rattle.std.specs.Prelude.{Option, Some, None, slice_get, slice_set}
 use Rattle.std.proofs.lemmas.Bool.{cases_eq, cases_lt, eq-eqb, ne_eqb, lt-ltb, le-ltb}
 use Rattle.std.proofs.lemmas.List.{length-set, get_or-set_same, get_or-set_other}
 use Rattle.std.proofs.lemmas.Option.{get_or_from_slice_get, slice_get_within, same_Some}
-use Rattle.drt_claims.specs.Proofs.{after, halved, parts_in, parts_in}
+use Rattle.drt_claims.specs.Proofs.{after, halved, node_parts, parts_in}
 use Rattle.drt_claims.specs.declared.evidence.Item.{Item}
 use Rattle.drt_claims.specs.declared.evidence.Item.TheVariants.{Pass, Split}
 use Rattle.drt_claims.specs.declared.evidence.TreeClaim.{TreeClaim}
@@ -22,16 +22,16 @@ record Halved (trees : List TreeClaim) (nodes : List ℕ) (place : ℕ) (stack n
   both : ℕ × ℕ
   tree_is : slice_get trees place ≡ Some tree
   node_is : slice_get nodes place ≡ Some node
-  parts_are : parts_in tree node ≡ Some both
+  parts_are : node_parts tree node ≡ Some both
   next_is : slice_set nodes place both.0 ∷ slice_set nodes place both.1 ∷ stack ≡ next
 
 found : (trees : List TreeClaim) (nodes : List ℕ) (place : ℕ) (stack next : List (List ℕ)) (t : Option TreeClaim) (n : Option ℕ) → slice_get trees place ≡ t → slice_get nodes place ≡ n
     → halved nodes place stack (parts_in t n) ≡ Some next → Halved trees nodes place stack next
 found trees nodes place stack next None n et en e = absurd (cc)
 found trees nodes place stack next (Some tree) None et en e = absurd (cc)
-found trees nodes place stack next (Some tree) (Some node) et en e = go (parts_in tree node) refl e
+found trees nodes place stack next (Some tree) (Some node) et en e = go (node_parts tree node) refl e
   where
-    go : (o : Option (ℕ × ℕ)) → parts_in tree node ≡ o → halved nodes place stack o ≡ Some next → Halved trees nodes place stack next
+    go : (o : Option (ℕ × ℕ)) → node_parts tree node ≡ o → halved nodes place stack o ≡ Some next → Halved trees nodes place stack next
     go None ep h = absurd (cc)
     go (Some p) ep h = record { tree = tree; node = node; both = p; tree_is = et; node_is = en; parts_are = ep; next_is = same_Some _ _ h }
 
@@ -56,7 +56,7 @@ halves_are trees nodes place stack next h i tree at = go (cases_eq place i)
     go (inl e) =
         let same_tree : tree ≡ h.tree = same_Some _ _ (sym at ∙ (ap (slice_get trees) (sym e) ∙ h.tree_is)) in
         let same_node : node_at i nodes ≡ h.node = ap (λ k. get_or nodes k 0) (sym e) ∙ get_or_from_slice_get nodes place h.node 0 h.node_is in
-        let are : parts_in tree (node_at i nodes) ≡ Some h.both = ap (λ (t : TreeClaim). parts_in t (node_at i nodes)) same_tree ∙ (ap (parts_in h.tree) same_node ∙ h.parts_are) in
+        let are : node_parts tree (node_at i nodes) ≡ Some h.both = ap (λ (t : TreeClaim). node_parts t (node_at i nodes)) same_tree ∙ (ap (node_parts h.tree) same_node ∙ h.parts_are) in
         let left : node_at i (set nodes place h.both.0) ≡ h.both.0 = ap (λ k. get_or (set nodes place h.both.0) k 0) (sym e) ∙ get_or-set_same nodes place h.both.0 0 within in
         let right : node_at i (set nodes place h.both.1) ≡ h.both.1 = ap (λ k. get_or (set nodes place h.both.1) k 0) (sym e) ∙ get_or-set_same nodes place h.both.1 0 within in
         rw (eq-eqb place i e, are) (ap (λ (s : List ℕ). Some s) (cc (left, right)) ∙ at_next)
@@ -106,6 +106,6 @@ stuck trees width (Split place) (nodes ∷ stack) few wide e = go (cases_lt plac
     go (inl l) =
         let t : (x : TreeClaim) × (slice_get trees place ≡ Some x) = some_within trees place (omega arith) in
         let n : (x : ℕ) × (slice_get nodes place ≡ Some x) = some_within nodes place (omega (arith, wide.0)) in
-        let none : parts_in t.0 n.0 ≡ None = none_halved nodes place stack (parts_in t.0 n.0) (rw (t.1, n.1) at e) in
+        let none : node_parts t.0 n.0 ≡ None = none_halved nodes place stack (node_parts t.0 n.0) (rw (t.1, n.1) at e) in
         let same : node_at place nodes ≡ n.0 = get_or_from_slice_get nodes place n.0 0 n.1 in
         inr (place, t.0, l, t.1, rw (eq-eqb place place refl, same, none) refl)

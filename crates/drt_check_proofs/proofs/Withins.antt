@@ -10,7 +10,7 @@ use Rattle.drt_model.specs.declared.tasks.Task.{Task}
 use Rattle.drt_model.specs.Digraph.{digraph_of, no_vertex}
 use Rattle.drt_model.specs.Limits.{IsTask, IsVertex}
 use Rattle.drt_model.specs.Walk.{deadline}
-use Rattle.drt_claims.specs.Proofs.{opening_stack, parts_in, parts_of, passes}
+use Rattle.drt_claims.specs.Proofs.{opening_stack, node_parts, parts_of, passes}
 use Rattle.drt_claims.specs.Trees.{IsTree, higher_count, root}
 use Rattle.drt_claims.specs.declared.evidence.Item.{Item}
 use Rattle.drt_claims.specs.declared.evidence.Item.TheVariants.{Pass, Split}
@@ -31,7 +31,7 @@ size tree = length tree.walks + length tree.pairs
 abbrev pub IsWithin : TreeClaim → Query → Type 0
 IsWithin tree q = q.node < size tree
 
-parts_within : (tree : TreeClaim) (n : ℕ) (p : ℕ × ℕ) → IsTree tree → parts_in tree n ≡ Some p → (p.0 < size tree) × (p.1 < size tree)
+parts_within : (tree : TreeClaim) (n : ℕ) (p : ℕ × ℕ) → IsTree tree → node_parts tree n ≡ Some p → (p.0 < size tree) × (p.1 < size tree)
 parts_within tree n p is e = go (cases_lt n (length tree.walks))
   where
     by_pair : (o : Option Pair) → slice_get tree.pairs (n - length tree.walks) ≡ o → parts_of o ≡ Some p → (p.0 < size tree) × (p.1 < size tree)
@@ -61,12 +61,12 @@ after_within tree i item [] is all = tt
 after_within tree i (Pass t) (n ∷ nodes) is all = all.1
 after_within tree i (Split place) (n ∷ nodes) is all = by_test (place == i)
   where
-    by_parts : (o : Option (ℕ × ℕ)) → parts_in tree n ≡ o → AreWithinIn tree (with_halves nodes o)
+    by_parts : (o : Option (ℕ × ℕ)) → node_parts tree n ≡ o → AreWithinIn tree (with_halves nodes o)
     by_parts None e = tt
     by_parts (Some p) e = (let both = parts_within tree n p is e in (both.0, (both.1, all.1)))
 
-    by_test : (b : Bool) → AreWithinIn tree (with_halves nodes (if b then parts_in tree n else Some (n, n)))
-    by_test true = by_parts (parts_in tree n) refl
+    by_test : (b : Bool) → AreWithinIn tree (with_halves nodes (if b then node_parts tree n else Some (n, n)))
+    by_test true = by_parts (node_parts tree n) refl
     by_test false = (all.0, (all.0, all.1))
 
 asks_within : (tree : TreeClaim) (item : Item) (nodes : List ℕ) → AreWithin tree nodes → AllByRecursion (IsWithin tree) (asks_at item nodes)

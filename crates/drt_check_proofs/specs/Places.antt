@@ -1,6 +1,6 @@
 -- A proof seen at one place: the nodes that its combinations have there, the topmost combination's first.
 use Rattle.std.specs.Prelude.{ℕ, zero, suc, ◌==◌, nat_lt, if◌then◌else◌, Option, None, Some, List, [], ◌∷◌, map, slice_index_or}
-use Rattle.drt_claims.specs.Proofs.{parts_in}
+use Rattle.drt_claims.specs.Proofs.{node_parts}
 use Rattle.drt_claims.specs.declared.evidence.Item.{Item}
 use Rattle.drt_claims.specs.declared.evidence.Item.TheVariants.{Pass, Split}
 use Rattle.drt_claims.specs.declared.evidence.TreeClaim.{TreeClaim}
@@ -16,7 +16,7 @@ at_place i stack = map (node_at i) stack
 -- The nodes at a place of the two halves of a combination that has this node there: the node's parts where the combination is
 -- split at this very place, and elsewhere the node itself.
 abbrev pub halves_at : TreeClaim → ℕ → ℕ → ℕ → Option (ℕ × ℕ)
-halves_at tree i place n = if place == i then parts_in tree n else Some (n, n)
+halves_at tree i place n = if place == i then node_parts tree n else Some (n, n)
 
 -- The nodes with the two of the halves before them.
 abbrev pub with_halves : List ℕ → Option (ℕ × ℕ) → Option (List ℕ)

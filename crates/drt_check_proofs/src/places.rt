@@ -1,6 +1,6 @@
 //! A proof seen at one place, as a stack of nodes of one tree. The last of the nodes is the topmost combination's.
 ghost use Rattle.std.specs.Prelude.{◌≡◌, IfOk, Some, None, reverse, if◌then◌else◌, [], ◌∷◌};
-ghost use Rattle.drt_claims.specs.Proofs.{parts_in};
+ghost use Rattle.drt_claims.specs.Proofs.{node_parts};
 ghost use Rattle.drt_claims.specs.Trees.{root};
 ghost use Rattle.drt_check_proofs.specs.Places.{after_at, halves_at};
 
@@ -10,7 +10,7 @@ use std::alloc::AllocError;
 
 // The two parts of a node of the tree, if it is a pair.
 fn parts(tree: &TreeClaim, node: u32) -> Option<(u32, u32)>
-    ensures { result ≡ parts_in tree.now node }
+    ensures { result ≡ node_parts tree.now node }
 {
     let walks = tree.walks.as_slice().len();
     if (node as usize) < walks {

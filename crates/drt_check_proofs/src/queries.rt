@@ -96,7 +96,7 @@ fn add_blanks(items: &[Item], queries: &mut Vec<Query>) -> Result<(), Memory>
     Ok(())
 }
 
-#[tactic(auto, unfolding(crate::specs::Passing::times))]
+#[tactic(auto, unfolding(crate::specs::Passing::passing_times))]
 fn add_blank(item: Item, queries: &mut Vec<Query>) -> Result<(), Memory>
     ensures { IfOk result (λ u. queries.new.items ≡ queries.old.items ++ map blank (passing_times (item ∷ []))) }
 {

@@ -63,7 +63,7 @@ fn add_times(wcet: u32, deadline: u32, items: &[Item], rooms: &mut Vec<u32>) -> 
     Ok(true)
 }
 
-#[tactic(auto, unfolding(crate::specs::Passing::times))]
+#[tactic(auto, unfolding(crate::specs::Passing::passing_times))]
 fn add_time(wcet: u32, deadline: u32, item: Item, rooms: &mut Vec<u32>) -> Result<bool, Memory>
     ensures timely { IfOk result (λ are. IsTrue are ↔ AllByRecursion IsTimely (map (make_mark wcet deadline) (passing_times (item ∷ [])))) }
     ensures rooms { IfOk result (λ are. IsTrue are → rooms.new.items ≡ rooms.old.items ++ map room (map (make_mark wcet deadline) (passing_times (item ∷ [])))) }

@@ -27,14 +27,14 @@ parts_of None = None
 parts_of (Some p) = Some (p.left, p.right)
 
 -- The two parts of a node of the tree, if it is a pair.
-abbrev pub parts_in : TreeClaim → ℕ → Option (ℕ × ℕ)
-parts_in tree n = if nat_lt n (length tree.walks) then None else parts_of (slice_get tree.pairs (n - length tree.walks))
+abbrev pub node_parts : TreeClaim → ℕ → Option (ℕ × ℕ)
+node_parts tree n = if nat_lt n (length tree.walks) then None else parts_of (slice_get tree.pairs (n - length tree.walks))
 
 -- The two parts of the node at a place, if there are a node and a tree at it and the node is a pair.
 abbrev pub parts_in : Option TreeClaim → Option ℕ → Option (ℕ × ℕ)
 parts_in None n = None
 parts_in (Some tree) None = None
-parts_in (Some tree) (Some n) = parts_in tree n
+parts_in (Some tree) (Some n) = node_parts tree n
 
 -- The combinations after the topmost one was split at a place: the one with the left part comes on top, and the one with the right
 -- part after it.

@@ -19,7 +19,7 @@ pub fn open(alloc: Global) -> State
 }
 
 /// The tasks that are done, with the last one behind them.
-#[tactic(auto, unfolding(crate::specs::ClassicFaults::with_last))]
+#[tactic(auto, unfolding(crate::specs::ClassicFaults::with_last_classic))]
 pub fn close(closed: Row<Draft>, last: Option<Draft>) -> Result<Row<Draft>, Memory>
     ensures { IfOk result (λ ds. ds ≡ with_last_classic closed last) }
 {
@@ -118,7 +118,7 @@ fn after_end(s: State) -> State
 }
 
 /// The state below a line that says this.
-#[tactic(auto, unfolding(crate::specs::ClassicFaults::after_line))]
+#[tactic(auto, unfolding(crate::specs::ClassicFaults::after_classic_line))]
 pub fn after(n: u32, s: State, line: Line) -> Result<State, Memory>
     ensures { IfOk result (λ t. t ≡ after_classic_line n s line) }
 {

@@ -54,7 +54,7 @@ fn tasks_of(alloc: Global, drafts: Row<Draft>) -> Result<Row<Classic>, Memory>
 }
 
 // The tasks, where the text as a whole has no fault; n is the number behind its last line.
-#[tactic(auto, unfolding(crate::specs::ClassicFaults::closing))]
+#[tactic(auto, unfolding(crate::specs::ClassicFaults::classic_closing))]
 fn closing(
     alloc: Global,
     n: u32,
@@ -78,7 +78,7 @@ fn closing(
 }
 
 /// The tasks that a text says, from what its lines leave; n is the number behind its last line.
-#[tactic(auto, unfolding(crate::specs::ClassicFaults::finish))]
+#[tactic(auto, unfolding(crate::specs::ClassicFaults::classic_finish))]
 pub fn finish(alloc: Global, n: u32, above: Option<State>) -> Result<Row<Classic>, ClassicError>
     ensures { GivesClassic result (classic_finish n above) }
 {

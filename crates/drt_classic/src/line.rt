@@ -54,7 +54,7 @@ pub fn head(words: &[&[u8]]) -> bool
 }
 
 // What the first field of a line says that it is.
-#[tactic(auto, unfolding(crate::specs::ClassicFaults::kind))]
+#[tactic(auto, unfolding(crate::specs::ClassicFaults::classic_kind))]
 fn kind_of_word(word: &[u8]) -> Kind
     ensures { result ≡ classic_kind word.now }
 {

@@ -60,7 +60,7 @@ fn any_named(name: &[u8], drafts: &[Draft]) -> bool
 }
 
 // Whether a task of that name stands above.
-#[tactic(auto, unfolding(crate::specs::ClassicFaults::has_task, crate::specs::ClassicFaults::in_last))]
+#[tactic(auto, unfolding(crate::specs::ClassicFaults::has_classic_task, crate::specs::ClassicFaults::in_last))]
 fn has_task(name: &[u8], s: &State) -> bool
     ensures { result ≡ has_classic_task name.now s.now }
 {
@@ -74,7 +74,7 @@ fn has_task(name: &[u8], s: &State) -> bool
 }
 
 // Whether 16 tasks stand above.
-#[tactic(auto, unfolding(crate::specs::ClassicFaults::task_count))]
+#[tactic(auto, unfolding(crate::specs::ClassicFaults::classic_task_count))]
 fn full(s: &State) -> bool
     ensures { result ≡ nat_le 16 (classic_task_count s.now) }
 {
@@ -111,7 +111,7 @@ fn frame_past(wcet: &[u8], deadline: &[u8], sep: &[u8]) -> bool
 }
 
 // The code of the fault of a `sporadic` line of these fields.
-#[tactic(auto, unfolding(crate::specs::ClassicFaults::sporadic_fault, crate::specs::ClassicFaults::first_of))]
+#[tactic(auto, unfolding(crate::specs::ClassicFaults::sporadic_fault, crate::specs::ClassicFaults::first_that_holds))]
 fn sporadic_fault(s: &State, name: &[u8], wcet: &[u8], deadline: &[u8], period: &[u8]) -> Option<u8>
     ensures code { result ≡ sporadic_fault s.now ([] ∷ name.now ∷ wcet.now ∷ deadline.now ∷ period.now ∷ []) }
     ensures in_range { result ≡ None → IsTrue (list_all is_in_range (wcet.now ∷ deadline.now ∷ period.now ∷ [])) }
@@ -138,7 +138,7 @@ fn sporadic_fault(s: &State, name: &[u8], wcet: &[u8], deadline: &[u8], period: 
 }
 
 // A `sporadic` line.
-#[tactic(auto, unfolding(crate::specs::ClassicFaults::sporadic_fault, crate::specs::ClassicFaults::unless, crate::specs::ClassicFaults::said_by))]
+#[tactic(auto, unfolding(crate::specs::ClassicFaults::sporadic_fault, crate::specs::ClassicFaults::unless, crate::specs::ClassicFaults::classic_said_by))]
 fn sporadic_line(alloc: Global, n: u32, s: &State, words: &[&[u8]]) -> Result<Line, ClassicError>
     ensures { GivesClassic result (unless n (sporadic_fault s.now (map (λ w. w.now) words.now)) (classic_said_by kinds.Sporadic (map (λ w. w.now) words.now))) }
 {
@@ -182,7 +182,7 @@ fn times_from(alloc: Global, words: &[&[u8]]) -> Result<Row<u32>, Memory>
 }
 
 // The task of a `multiframe` line whose fields are in range.
-#[tactic(auto, unfolding(crate::specs::ClassicFaults::said_by))]
+#[tactic(auto, unfolding(crate::specs::ClassicFaults::classic_said_by))]
 fn multiframe_from(
     alloc: Global,
     name: &[u8],
@@ -212,7 +212,7 @@ fn multiframe_past(deadline: &[u8], period: &[u8], wcets: &[&[u8]]) -> bool
 }
 
 // The code of the fault of a `multiframe` line of at least four fields.
-#[tactic(auto, unfolding(crate::specs::ClassicFaults::multiframe_fault, crate::specs::ClassicFaults::first_of))]
+#[tactic(auto, unfolding(crate::specs::ClassicFaults::multiframe_fault, crate::specs::ClassicFaults::first_that_holds))]
 fn multiframe_fault(
     s: &State,
     name: &[u8],
@@ -251,7 +251,7 @@ fn multiframe_fault(
 }
 
 // A `multiframe` line.
-#[tactic(auto, unfolding(crate::specs::ClassicFaults::multiframe_fault, crate::specs::ClassicFaults::unless, crate::specs::ClassicFaults::said_by))]
+#[tactic(auto, unfolding(crate::specs::ClassicFaults::multiframe_fault, crate::specs::ClassicFaults::unless, crate::specs::ClassicFaults::classic_said_by))]
 fn multiframe_line(alloc: Global, n: u32, s: &State, words: &[&[u8]]) -> Result<Line, ClassicError>
     ensures { GivesClassic result (unless n (multiframe_fault s.now (map (λ w. w.now) words.now)) (classic_said_by kinds.Multiframe (map (λ w. w.now) words.now))) }
 {
@@ -267,7 +267,7 @@ fn multiframe_line(alloc: Global, n: u32, s: &State, words: &[&[u8]]) -> Result<
 }
 
 // The code of the fault of a `gmf` or `noncyclic` line of this name.
-#[tactic(auto, unfolding(crate::specs::ClassicFaults::open_fault, crate::specs::ClassicFaults::first_of))]
+#[tactic(auto, unfolding(crate::specs::ClassicFaults::open_fault, crate::specs::ClassicFaults::first_that_holds))]
 fn open_fault(s: &State, name: &[u8]) -> Option<u8>
     ensures { result ≡ open_fault s.now ([] ∷ name.now ∷ []) }
 {
@@ -298,7 +298,7 @@ fn open_name(alloc: Global, n: u32, s: &State, words: &[&[u8]]) -> Result<Name, 
 }
 
 // A `gmf` line.
-#[tactic(auto, unfolding(crate::specs::ClassicFaults::open_fault, crate::specs::ClassicFaults::unless, crate::specs::ClassicFaults::said_by))]
+#[tactic(auto, unfolding(crate::specs::ClassicFaults::open_fault, crate::specs::ClassicFaults::unless, crate::specs::ClassicFaults::classic_said_by))]
 fn gmf_line(alloc: Global, n: u32, s: &State, words: &[&[u8]]) -> Result<Line, ClassicError>
     ensures { GivesClassic result (unless n (open_fault s.now (map (λ w. w.now) words.now)) (classic_said_by kinds.Gmf (map (λ w. w.now) words.now))) }
 {
@@ -310,7 +310,7 @@ fn gmf_line(alloc: Global, n: u32, s: &State, words: &[&[u8]]) -> Result<Line, C
 }
 
 // A `noncyclic` line.
-#[tactic(auto, unfolding(crate::specs::ClassicFaults::open_fault, crate::specs::ClassicFaults::unless, crate::specs::ClassicFaults::said_by))]
+#[tactic(auto, unfolding(crate::specs::ClassicFaults::open_fault, crate::specs::ClassicFaults::unless, crate::specs::ClassicFaults::classic_said_by))]
 fn noncyclic_line(alloc: Global, n: u32, s: &State, words: &[&[u8]]) -> Result<Line, ClassicError>
     ensures { GivesClassic result (unless n (open_fault s.now (map (λ w. w.now) words.now)) (classic_said_by kinds.Noncyclic (map (λ w. w.now) words.now))) }
 {
@@ -346,7 +346,7 @@ fn full_of_frames(draft: &Draft) -> bool
 }
 
 // The code of the fault of a `frame` line of these fields.
-#[tactic(auto, unfolding(crate::specs::ClassicFaults::frame_fault, crate::specs::ClassicFaults::in_last, crate::specs::ClassicFaults::first_of))]
+#[tactic(auto, unfolding(crate::specs::ClassicFaults::frame_fault, crate::specs::ClassicFaults::in_last, crate::specs::ClassicFaults::first_that_holds))]
 fn frame_fault(s: &State, wcet: &[u8], deadline: &[u8], sep: &[u8]) -> Option<u8>
     ensures code { result ≡ frame_fault s.now ([] ∷ wcet.now ∷ deadline.now ∷ sep.now ∷ []) }
     ensures in_range { result ≡ None → IsTrue (list_all is_in_range (wcet.now ∷ deadline.now ∷ sep.now ∷ [])) }
@@ -369,7 +369,7 @@ fn frame_fault(s: &State, wcet: &[u8], deadline: &[u8], sep: &[u8]) -> Option<u8
 }
 
 // A `frame` line.
-#[tactic(auto, unfolding(crate::specs::ClassicFaults::frame_fault, crate::specs::ClassicFaults::unless, crate::specs::ClassicFaults::said_by))]
+#[tactic(auto, unfolding(crate::specs::ClassicFaults::frame_fault, crate::specs::ClassicFaults::unless, crate::specs::ClassicFaults::classic_said_by))]
 fn frame_line(n: u32, s: &State, words: &[&[u8]]) -> Result<Line, ClassicError>
     ensures { GivesClassic result (unless n (frame_fault s.now (map (λ w. w.now) words.now)) (classic_said_by kinds.Frame (map (λ w. w.now) words.now))) }
 {
@@ -383,7 +383,7 @@ fn frame_line(n: u32, s: &State, words: &[&[u8]]) -> Result<Line, ClassicError>
 }
 
 // An `end` line.
-#[tactic(auto, unfolding(crate::specs::ClassicFaults::end_fault, crate::specs::ClassicFaults::unless, crate::specs::ClassicFaults::said_by))]
+#[tactic(auto, unfolding(crate::specs::ClassicFaults::classic_end_fault, crate::specs::ClassicFaults::unless, crate::specs::ClassicFaults::classic_said_by))]
 fn end_line(n: u32, words: &[&[u8]]) -> Result<Line, ClassicError>
     ensures { GivesClassic result (unless n (classic_end_fault (map (λ w. w.now) words.now)) (classic_said_by kinds.End (map (λ w. w.now) words.now))) }
 {
@@ -393,7 +393,7 @@ fn end_line(n: u32, words: &[&[u8]]) -> Result<Line, ClassicError>
     }
 }
 
-#[tactic(auto, unfolding(crate::specs::ClassicFaults::kind_fault, crate::specs::ClassicFaults::unless))]
+#[tactic(auto, unfolding(crate::specs::ClassicFaults::classic_kind_fault, crate::specs::ClassicFaults::unless))]
 fn line_of_kind(
     alloc: Global,
     n: u32,

@@ -69,7 +69,7 @@ fn below(
 }
 
 // What a line that isn't skipped leaves, or its fault.
-#[tactic(auto, unfolding(crate::specs::ClassicFaults::line_step))]
+#[tactic(auto, unfolding(crate::specs::ClassicFaults::classic_line_step))]
 fn line_step(
     alloc: Global,
     n: u32,
@@ -102,7 +102,7 @@ fn words_step(
     }
 }
 
-#[tactic(auto, unfolding(crate::specs::ClassicFaults::step))]
+#[tactic(auto, unfolding(crate::specs::ClassicFaults::classic_step))]
 fn step(
     alloc: Global,
     n: u32,
@@ -137,7 +137,7 @@ fn all_lines(alloc: Global, text: &[u8]) -> Result<(u32, Option<State>), Classic
 }
 
 // The tasks that a text says, or its fault.
-#[tactic(auto, unfolding(crate::specs::ClassicFaults::read_text))]
+#[tactic(auto, unfolding(crate::specs::ClassicFaults::read_classic_text))]
 fn tasks_of(alloc: Global, bytes: &[u8]) -> Result<Row<Classic>, ClassicError>
     requires { length bytes.now ≤ 1073741824 }
     ensures { GivesClassic result (read_classic_text bytes.now) }

@@ -10,7 +10,7 @@ use Rattle.drt_model.specs.declared.jobs.Policy.TheVariants as policies
 use Rattle.drt_model.specs.declared.jobs.Release.{Release}
 use Rattle.drt_model.specs.declared.jobs.Miss.{Miss}
 use Rattle.drt_file.specs.trusted.Canonical.{written, written_line}
-use Rattle.drt_evidence.specs.Blocks.{AreNamed, AreSoMany, NamedMiss, in_turn, ReadsBlock, IsStop, named_block, counted_blocks, first_block, close_block, IsOfKind}
+use Rattle.drt_evidence.specs.Blocks.{AreNamed, AreSoMany, NamedMiss, in_turn, ReadsBlock, IsStop, named_block, count_and_blocks, first_block, close_block, IsOfKind}
 use Rattle.drt_evidence.specs.LineForms.{AreItemsCounted, IsAny, IsInRangeWritten, IsInRangeWrittenSearch, kind_keyword, kind_line, kind_of, numbers_line, policy_line}
 use Rattle.drt_evidence.specs.LineForms.{potentials_line, written_ratio_line, written_search_line}
 use Rattle.drt_claims.specs.Ranges.{AreInRangeReleases, IsEvidenceInRange, IsInRangeFront, IsInRangeMiss, IsInRangePair, IsInRangePotential, IsInRangeProof, IsInRangeRatio, IsInRangeRelease, IsInRangeTree, IsInRangeWalk, IsNumber}
@@ -35,31 +35,31 @@ use Rattle.drt_evidence.proofs.Blocks.{At, start, next, done, stop}
 use Rattle.drt_evidence.proofs.Parts.{Two, One, written_map, written_flat, written_both}
 
 -- A list of lines below a count, and a list of blocks.
-counted_lines : {X : Type 0} (word : List ℕ) (f : X → List (List ℕ)) → counted_blocks word (λ x. written_line (f x)) ≡ (λ xs. written (count_line word (length xs) ∷ map f xs))
+counted_lines : {X : Type 0} (word : List ℕ) (f : X → List (List ℕ)) → count_and_blocks word (λ x. written_line (f x)) ≡ (λ xs. written (count_line word (length xs) ∷ map f xs))
 counted_lines word f = fun_ext (λ xs. ap (λ t. written_line (count_line word (length xs)) ++ t) (sym (written_map f xs)))
 
-counted_blocks : {X : Type 0} (word : List ℕ) (f : X → List (List (List ℕ))) → counted_blocks word (λ x. written (f x)) ≡ (λ xs. written (count_line word (length xs) ∷ flat_map f xs))
+counted_blocks : {X : Type 0} (word : List ℕ) (f : X → List (List (List ℕ))) → count_and_blocks word (λ x. written (f x)) ≡ (λ xs. written (count_line word (length xs) ∷ flat_map f xs))
 counted_blocks word f = fun_ext (λ xs. ap (λ t. written_line (count_line word (length xs)) ++ t) (sym (written_flat f xs)))
 
-pub front_same : counted_blocks (codes "front") (λ e. written_line (entry_line e)) ≡ (λ f. written (front_lines f))
+pub front_same : count_and_blocks (codes "front") (λ e. written_line (entry_line e)) ≡ (λ f. written (front_lines f))
 front_same = counted_lines (codes "front") entry_line
 
-pub ratios_same : counted_blocks (codes "ratios") (λ c. written (ratio_lines c)) ≡ (λ rs. written (ratio_block rs))
+pub ratios_same : count_and_blocks (codes "ratios") (λ c. written (ratio_lines c)) ≡ (λ rs. written (ratio_block rs))
 ratios_same = counted_blocks (codes "ratios") ratio_lines
 
-pub fronts_same : counted_blocks (codes "fronts") (λ f. written (front_lines f)) ≡ (λ fs. written (front_block fs))
+pub fronts_same : count_and_blocks (codes "fronts") (λ f. written (front_lines f)) ≡ (λ fs. written (front_block fs))
 fronts_same = counted_blocks (codes "fronts") front_lines
 
-pub trees_same : counted_blocks (codes "trees") (λ t. written (tree_lines t)) ≡ (λ ts. written (tree_block ts))
+pub trees_same : count_and_blocks (codes "trees") (λ t. written (tree_lines t)) ≡ (λ ts. written (tree_block ts))
 trees_same = counted_blocks (codes "trees") tree_lines
 
-pub proofs_same : counted_blocks (codes "proofs") (λ p. written_line (proof_line p)) ≡ (λ ps. written (proof_block ps))
+pub proofs_same : count_and_blocks (codes "proofs") (λ p. written_line (proof_line p)) ≡ (λ ps. written (proof_block ps))
 proofs_same = counted_lines (codes "proofs") proof_line
 
-pub tails_same : counted_blocks (codes "tails") (λ t. written (tail_lines t)) ≡ (λ ts. written (tail_block ts))
+pub tails_same : count_and_blocks (codes "tails") (λ t. written (tail_lines t)) ≡ (λ ts. written (tail_block ts))
 tails_same = counted_blocks (codes "tails") tail_lines
 
-pub searches_same : counted_blocks (codes "searches") (λ s. written (search_lines s)) ≡ (λ ss. written (search_block ss))
+pub searches_same : count_and_blocks (codes "searches") (λ s. written (search_lines s)) ≡ (λ ss. written (search_block ss))
 searches_same = counted_blocks (codes "searches") search_lines
 
 -- A ratio is its numerator and denominator, and behind these its cycle and its potentials.
@@ -106,8 +106,8 @@ ratio_parts = record {
 }
 
 -- A tree is its walks and its pairs.
-abbrev pub tree_parts : Two (λ t. written (tree_lines t)) IsInRangeTree (counted_blocks (codes "tree") (λ w. written_line (walk_line w))) (AreItemsCounted IsInRangeWalk)
-    (counted_blocks (codes "pairs") (λ p. written_line (pair_line p))) (AreItemsCounted IsInRangePair)
+abbrev pub tree_parts : Two (λ t. written (tree_lines t)) IsInRangeTree (count_and_blocks (codes "tree") (λ w. written_line (walk_line w))) (AreItemsCounted IsInRangeWalk)
+    (count_and_blocks (codes "pairs") (λ p. written_line (pair_line p))) (AreItemsCounted IsInRangePair)
 tree_parts = record {
   first = λ t. t.walks;
   second = λ t. t.pairs;
@@ -119,7 +119,7 @@ tree_parts = record {
       (written_both (map walk_line t.walks) (count_line (codes "pairs") (length t.pairs) ∷ map pair_line t.pairs)
       ∙ ap (λ w. w ++ written (count_line (codes "pairs") (length t.pairs) ∷ map pair_line t.pairs)) (written_map walk_line t.walks)
       ∙ ap (λ w. flat_map (λ x. written_line (walk_line x)) t.walks ++ (written_line (count_line (codes "pairs") (length t.pairs)) ++ w)) (written_map pair_line t.pairs))
-      ∙ sym (append_assoc (written_line (count_line (codes "tree") (length t.walks))) (flat_map (λ x. written_line (walk_line x)) t.walks) (counted_blocks (codes "pairs") (λ p. written_line (pair_line p)) t.pairs));
+      ∙ sym (append_assoc (written_line (count_line (codes "tree") (length t.walks))) (flat_map (λ x. written_line (walk_line x)) t.walks) (count_and_blocks (codes "pairs") (λ p. written_line (pair_line p)) t.pairs));
   made = λ t is. refl;
   make_is = λ v w f g. record { walks = f.0; walks_counted = f.1; pairs = g.0; pairs_counted = g.1 };
   make_first = λ v w f g. refl;
@@ -129,7 +129,7 @@ tree_parts = record {
 }
 
 -- A tail is the lines of its vertices.
-abbrev pub tail_part : One (λ t. written (tail_lines t)) IsInRangeTail (counted_blocks (codes "tail") (λ c. written_line (curve_line c))) (AreItemsCounted IsInRangeCurve)
+abbrev pub tail_part : One (λ t. written (tail_lines t)) IsInRangeTail (count_and_blocks (codes "tail") (λ c. written_line (curve_line c))) (AreItemsCounted IsInRangeCurve)
 tail_part = record {
   part = λ t. t.curves;
   make = λ cs. record { curves = cs };
@@ -215,7 +215,7 @@ search_read {w = w} {xs = xs} r q =
     (λ y is. ap (λ (o : WrittenSearch). search_with o y.states) is.0.1 ∙ ap (λ ss. search_with w ss) is.1)
 
 -- Releases and the miss of one of their jobs.
-abbrev pub release_parts : Two named_block AreNamed (counted_blocks (codes "releases") (λ r. written_line (release_line r))) (AreItemsCounted IsInRangeRelease)
+abbrev pub release_parts : Two named_block AreNamed (count_and_blocks (codes "releases") (λ r. written_line (release_line r))) (AreItemsCounted IsInRangeRelease)
     (λ m. written_line (miss_line m)) IsInRangeMiss
 release_parts = record {
   first = λ p. p.0;

@@ -14,7 +14,7 @@ use Rattle.drt_file.specs.trusted.Words.{value}
 use Rattle.drt_file.proofs.Digits.{value_decimal}
 use Rattle.drt_file.proofs.Feeds.{line_same}
 use Rattle.drt_file.proofs.Fronts.{one_front}
-use Rattle.drt_evidence.specs.Blocks.{AreNamed, IsOfKind, IsSet, close_block, counted_blocks, in_turn, named_block}
+use Rattle.drt_evidence.specs.Blocks.{AreNamed, IsOfKind, IsSet, close_block, count_and_blocks, in_turn, named_block}
 use Rattle.drt_evidence.specs.Cuts.{AreStateParts, IsSpaced, counted_form, end_form, entry_form, join_form, jump_form, spaced_form, state_form}
 use Rattle.drt_evidence.specs.Fields.{behind}
 use Rattle.drt_evidence.specs.LineForms.{AreBoth, AreItemsCounted, IsAny, IsFieldForm, kind_line, IsInRangeWritten, IsInRangeWrittenSearch, itself, kind_of, list_form}
@@ -209,7 +209,7 @@ turn_alone T D alone (x ∷ xs) (y ∷ ys) s t size ix iy e =
 count_alone : (word : List ℕ) → IsLine (count_line word) IsNumber → Alone (λ n. written_line (count_line word n)) IsNumber
 count_alone word kind = shape_alone (count_shape word) kind number_tells
 
-counted_alone : {X : Type 0} (word : List ℕ) (T : X → List ℕ) (D : X → Type 0) → IsLine (count_line word) IsNumber → Alone T D → Alone (counted_blocks word T) (AreItemsCounted D)
+counted_alone : {X : Type 0} (word : List ℕ) (T : X → List ℕ) (D : X → Type 0) → IsLine (count_line word) IsNumber → Alone T D → Alone (count_and_blocks word T) (AreItemsCounted D)
 counted_alone word T D kind alone xs ys s t ix iy e =
     let line = λ (n : ℕ). written_line (count_line word n) in
     let cut : line (length xs) ++ (in_turn T xs ++ s) ≡ line (length ys) ++ (in_turn T ys ++ t) = sym (append_assoc (line (length xs)) (in_turn T xs) s) ∙ e ∙ append_assoc (line (length ys)) (in_turn T ys) t in

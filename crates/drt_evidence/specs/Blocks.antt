@@ -62,8 +62,8 @@ abbrev pub AreSoMany : {X : Type 0} → ℕ → (X → Type 0) → List X → Ty
 AreSoMany n Is xs = AllByRecursion Is xs × (length xs ≡ n)
 
 -- Blocks one after another, below the line of their count.
-abbrev pub counted_blocks : {X : Type 0} → List ℕ → (X → List ℕ) → List X → List ℕ
-counted_blocks word block xs = written_line (count_line word (length xs)) ++ flat_map block xs
+abbrev pub count_and_blocks : {X : Type 0} → List ℕ → (X → List ℕ) → List X → List ℕ
+count_and_blocks word block xs = written_line (count_line word (length xs)) ++ flat_map block xs
 
 -- The first line of a dossier.
 abbrev pub first_block : Unit {0} → List ℕ

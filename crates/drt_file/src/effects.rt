@@ -141,7 +141,7 @@ fn vertex_added(current: Option<Draft>, v: Vertex) -> Result<Option<Draft>, Memo
     }
 }
 
-#[tactic(auto, unfolding(crate::specs::internal::Reader::joined))]
+#[tactic(auto, unfolding(crate::specs::internal::Reader::joined_draft))]
 fn edge_added(current: Option<Draft>, edge: Edge) -> Result<Option<Draft>, Memory>
     ensures { IfOk result (λ d. d ≡ option_map (joined_draft edge) current) }
 {

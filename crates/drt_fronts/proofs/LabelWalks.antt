@@ -4,6 +4,7 @@ use Rattle.std.specs.Prelude.{IsTrue}
 use Rattle.std.proofs.lemmas.Bool.{leb-true, le-leb}
 use Rattle.std.proofs.lemmas.Bool.Decides.{nat_tests}
 use Rattle.std.proofs.lemmas.List.{reverse-append}
+use Rattle.drt_graph.specs.FrontEntry.{Covers}
 use Rattle.drt_model.specs.Digraph.{Digraph, IsSoundGraph, IsConstrainedGraph, vertex_count, out_degree, edge_of}
 use Rattle.drt_model.specs.Walk.{gap, wcet, deadline, sep, IsEdge, IsPath, last_of, span, work}
 use Rattle.drt_graph.proofs.Edges.{sep_of_edge, edge_of_sep, gap_of, source_of}

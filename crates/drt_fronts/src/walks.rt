@@ -1,5 +1,6 @@
 //! The walk that has all the demand of a time.
 ghost use Rattle.std.specs.Prelude.{◌≡◌, ℕ, ◌<◌, ◌↔◌, All, Contains, IfOk, IsTrue};
+ghost use Rattle.drt_graph.specs.FrontEntry.{IsNextEntry};
 ghost use Rattle.drt_model.specs.Digraph.{IsConstrainedGraph, vertex_count};
 ghost use Rattle.drt_model.specs.Legal.{AllNeighbours};
 ghost use Rattle.drt_fronts.specs.DemandWalk.{IsGreatestDue, IsLabelBefore, IsPrefixLabel, IsPrefixOf, IsDemandWalkTo, is_below};

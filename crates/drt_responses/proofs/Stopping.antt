@@ -12,7 +12,7 @@ use Rattle.drt_file.proofs.Again.{all_of_both}
 use Rattle.drt_file.proofs.Feeds.{line_same, no_line_here}
 use Rattle.drt_claims.specs.Ranges.{IsNumber}
 use Rattle.drt_evidence.specs.Text.{count_line}
-use Rattle.drt_evidence.specs.Blocks.{ReadsBlock, RefusesLine, Stops, in_turn, AreSoMany, counted_blocks}
+use Rattle.drt_evidence.specs.Blocks.{ReadsBlock, RefusesLine, Stops, in_turn, AreSoMany, count_and_blocks}
 use Rattle.drt_evidence.specs.LineForms.{AreItemsCounted, IsLineOf, IsNoLine}
 use Rattle.drt_evidence.proofs.Blocks.{At, both_lines, cut_at, next, no_lines, start}
 use Rattle.drt_evidence.proofs.Leaves.{IsLine, line_taken as taken_line}
@@ -161,22 +161,22 @@ each_stop {X} {T} {D} {n} {bytes} {mid} {xs} {e} count lt some some_is r i = rec
     }
 
 -- The line of a count, and so many blocks below it.
-count_parts : {X : Type 0} (word : List ℕ) (T : X → List ℕ) (D : X → Type 0) (xs : List X) → AreItemsCounted D xs → IsNumber (length xs) × (counted_blocks word T xs ≡ written_line (count_line word (length xs)) ++ in_turn T xs)
+count_parts : {X : Type 0} (word : List ℕ) (T : X → List ℕ) (D : X → Type 0) (xs : List X) → AreItemsCounted D xs → IsNumber (length xs) × (count_and_blocks word T xs ≡ written_line (count_line word (length xs)) ++ in_turn T xs)
 count_parts word T D xs is = (is.1, refl)
 
 pub count_stop : {X : Type 0} {bytes : List ℕ} {e : Stop} (T : X → List ℕ) (D : X → Type 0) (word : List ℕ) → (x : X) → D x
-    → IsResponsesStop (λ n. written_line (count_line word n)) IsNumber bytes e → IsResponsesStop (counted_blocks word T) (AreItemsCounted D) bytes e
+    → IsResponsesStop (λ n. written_line (count_line word n)) IsNumber bytes e → IsResponsesStop (count_and_blocks word T) (AreItemsCounted D) bytes e
 count_stop {X} {bytes} T D word x is i =
     stop (λ (xs : List X). length xs) (in_turn T) (count_parts word T D)
     (λ n num. (replicate n x, (All-replicate D n x is, subst IsNumber (sym (length-replicate n x)) num), length-replicate n x))
-    (start (counted_blocks word T) (AreItemsCounted D) bytes) i
+    (start (count_and_blocks word T) (AreItemsCounted D) bytes) i
 
 counted_at : {X : Type 0} {n : ℕ} {bytes mid : List ℕ} (T : X → List ℕ) (D : X → Type 0) (word : List ℕ) → ReadsBlock (λ k. written_line (count_line word k)) IsNumber bytes n mid
-    → At (counted_blocks word T) (AreItemsCounted D) (λ (xs : List X). AreItemsCounted D xs × (length xs ≡ n)) (in_turn T) bytes mid
-counted_at {X} {bytes = bytes} T D word r = next (λ (xs : List X). length xs) (in_turn T) (count_parts word T D) (start (counted_blocks word T) (AreItemsCounted D) bytes) r
+    → At (count_and_blocks word T) (AreItemsCounted D) (λ (xs : List X). AreItemsCounted D xs × (length xs ≡ n)) (in_turn T) bytes mid
+counted_at {X} {bytes = bytes} T D word r = next (λ (xs : List X). length xs) (in_turn T) (count_parts word T D) (start (count_and_blocks word T) (AreItemsCounted D) bytes) r
 
 pub counted_stop : {X : Type 0} {n : ℕ} {bytes mid : List ℕ} {e : Stop} (T : X → List ℕ) (D : X → Type 0) (word : List ℕ) → ReadsBlock (λ k. written_line (count_line word k)) IsNumber bytes n mid
-    → IsResponsesStop (in_turn T) (AreSoMany n D) mid e → IsResponsesStop (counted_blocks word T) (AreItemsCounted D) bytes e
+    → IsResponsesStop (in_turn T) (AreSoMany n D) mid e → IsResponsesStop (count_and_blocks word T) (AreItemsCounted D) bytes e
 counted_stop {X} {n} T D word r i =
     stop (λ (xs : List X). xs) (λ xs. []) (λ xs is. ((recursion_from_All D xs is.0.0, is.1), sym (append-nil (in_turn T xs))))
     (λ xs is. (xs, ((All-from_recursion D xs is.0, subst IsNumber (sym is.1) r.is), is.1), refl)) (counted_at T D word r) i

@@ -3,7 +3,7 @@ use Rattle.std.specs.Prelude.{◌≡◌, ℕ, ◌≤◌, Bool, List, [], ◌∷�
 use Rattle.std.specs.List.{flat_map}
 use Rattle.drt_model.specs.declared.jobs.Release.{Release}
 use Rattle.drt_file.specs.trusted.Canonical.{written, written_line}
-use Rattle.drt_evidence.specs.Blocks.{Stops, counted_blocks}
+use Rattle.drt_evidence.specs.Blocks.{Stops, count_and_blocks}
 use Rattle.drt_claims.specs.Ranges.{IsNumber}
 use Rattle.drt_evidence.specs.Text.{release_line, word_line}
 use Rattle.drt_responses.specs.Text.{response_lines}
@@ -48,7 +48,7 @@ IsInRangeHeading Closes = Unit {0}
 
 -- The block of releases: how many there are, and the line of each.
 abbrev pub releases_block : List Release → List ℕ
-releases_block releases = counted_blocks (codes "releases") (λ r. written_line (release_line r)) releases
+releases_block releases = count_and_blocks (codes "releases") (λ r. written_line (release_line r)) releases
 
 -- The blocks of responses, and the last line.
 abbrev pub rows_block : List Response → List ℕ

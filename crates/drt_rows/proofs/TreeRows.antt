@@ -5,7 +5,7 @@ use Rattle.drt_model.specs.declared.tasks.Task.{Task}
 use Rattle.drt_model.specs.Digraph.{digraph_of}
 use Rattle.drt_model.specs.RequestFunction.{requested_from}
 use Rattle.drt_model.specs.Walk.{sep_in, or_zero}
-use Rattle.drt_claims.specs.Proofs.{after_all, opening_stack, parts_in, passes, subjects_from, tree_sum_at}
+use Rattle.drt_claims.specs.Proofs.{after_all, opening_stack, node_parts, passes, subjects_from, tree_sum_at}
 use Rattle.drt_claims.specs.Trees.{by_priority, greatest_deadline, higher_count, joined, latest_deadline, named, node_values, placed, root}
 use Rattle.drt_claims.specs.declared.evidence.Item.TheVariants.{Pass, Split}
 use Rattle.drt_claims.specs.declared.evidence.Pair.{Pair}
@@ -94,7 +94,7 @@ pub none_left : after_all trees (Split 0 ∷ Pass 5 ∷ Pass 4 ∷ Pass 5 ∷ []
 unfolding after_all
 none_left = refl
 
-pub no_parts : parts_in tree 2 ≡ None
+pub no_parts : node_parts tree 2 ≡ None
 no_parts = refl
 
 -- The highest task has no combination but the empty one, which passes at the vertex's execution time.

@@ -6,7 +6,7 @@ use Rattle.std.proofs.lemmas.List.{get_or-map, get_or_append_left, get_or_at, le
 use Rattle.std.proofs.lemmas.Option.{none-some, same_Some, slice_get_within}
 use Rattle.drt_model.specs.Digraph.{Digraph}
 use Rattle.drt_tree.specs.Tree.{IsForest, IsPair, Plain, children, leaves}
-use Rattle.drt_claims.specs.Proofs.{parts_in}
+use Rattle.drt_claims.specs.Proofs.{node_parts}
 use Rattle.drt_claims.specs.Trees.{IsTree, root}
 use Rattle.drt_claims.specs.declared.evidence.Pair.{Pair}
 use Rattle.drt_claims.specs.declared.evidence.TreeClaim.{TreeClaim}
@@ -72,7 +72,7 @@ module _ (g : Digraph) (bound : ℕ) (f : Plain) (low top : ℕ) (claim : TreeCl
   one_walk : (n : ℕ) → n < width → leaves f (low + n) ≡ 1
   one_walk n l =
       let inside : n ≤ root claim = let p = tree.pairs in omega (arith, l, p) in
-      let none : parts_in claim n ≡ None = parts_before claim n l in
+      let none : node_parts claim n ≡ None = parts_before claim n l in
       forest.ones (low + n) (lowered_none low (children f (low + n)) (sym none ∙ is.parts n inside))
 
   -- A pair of the claim has as many leaves as both its parts.
@@ -81,7 +81,7 @@ module _ (g : Digraph) (bound : ℕ) (f : Plain) (low top : ℕ) (claim : TreeCl
       let within : i < length claim.pairs = slice_get_within claim.pairs i p at in
       let inside : width + i ≤ root claim = omega (arith, within) in
       let here : slice_get claim.pairs (width + i - width) ≡ Some p = ap (slice_get claim.pairs) (let e : width + i - width ≡ i = omega arith in e) ∙ at in
-      let named : parts_in claim (width + i) ≡ Some (p.left, p.right) = parts_after claim (width + i) p (omega arith) here in
+      let named : node_parts claim (width + i) ≡ Some (p.left, p.right) = parts_after claim (width + i) p (omega arith) here in
       let c = lowered_some low (children f (low + (width + i))) (p.left, p.right) (sym named ∙ is.parts (width + i) inside) in
       let from = is.above (width + i) c.0.0 c.0.1 inside c.1 in
       let pair : IsPair f (low + (width + i)) c.0.0 c.0.1 = forest.pairs (low + (width + i)) c.0.0 c.0.1 c.1 in

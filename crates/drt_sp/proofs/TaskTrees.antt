@@ -27,7 +27,7 @@ use Rattle.drt_tree.proofs.Trees.{get_front, grows_on, index_front, leaves_grow,
 use Rattle.drt_choices.specs.Choices.{StandsFor}
 use Rattle.drt_busy.specs.Response.{cut_from}
 use Rattle.drt_choices.proofs.Cuts.{cut_asks}
-use Rattle.drt_claims.specs.Proofs.{parts_in}
+use Rattle.drt_claims.specs.Proofs.{node_parts}
 use Rattle.drt_claims.specs.Ranges.{IsInRangePair, IsInRangeTree, IsInRangeWalk}
 use Rattle.drt_claims.specs.Trees.{HasShortWalks, IsAbove, IsClosedWalk, IsExtendedWalk, IsShortWalk, IsTree, asked, node_values, root}
 use Rattle.drt_claims.specs.declared.evidence.Pair.{Pair}
@@ -69,11 +69,11 @@ get_past : {A : Type 0} (xs ys : List A) (k : ℕ) → slice_get (xs ++ ys) (len
 get_past [] ys k = ap (λ n. slice_get ys n) (let e : 0 + k ≡ k = omega arith in e)
 get_past (x ∷ xs) ys k = ap (λ n. slice_get (x ∷ (xs ++ ys)) n) (let e : suc (length xs) + k ≡ suc (length xs + k) = omega arith in e) ∙ get_past xs ys k
 
-pub parts_before : (claim : TreeClaim) (k : ℕ) → k < length claim.walks → parts_in claim k ≡ None
+pub parts_before : (claim : TreeClaim) (k : ℕ) → k < length claim.walks → node_parts claim k ≡ None
 parts_before claim k l = let t : nat_lt k (length claim.walks) ≡ true = grind (arith, nat_tests) in rw t refl
 
 pub parts_after : (claim : TreeClaim) (k : ℕ) (p : Pair) → length claim.walks ≤ k → slice_get claim.pairs (k - length claim.walks) ≡ Some p
-    → ◌≡◌ {A = Option (ℕ × ℕ)} (parts_in claim k) (Some (p.left, p.right))
+    → ◌≡◌ {A = Option (ℕ × ℕ)} (node_parts claim k) (Some (p.left, p.right))
 parts_after claim k p l at = let t : nat_lt k (length claim.walks) ≡ false = grind (arith, nat_tests) in rw (t, at) refl
 
 module _ (f h : Plain) (ls : List Leaf) (top : ℕ) (old : IsForest f) (added : IsTreeAdded f h ls top) where
@@ -323,10 +323,10 @@ module _ (f h : Plain) (ls : List Leaf) (top : ℕ) (old : IsForest f) (added : 
     node_is : (k : ℕ) → count ≤ k → first + (k - count) ≡ low + k
     node_is k l = let e = first_is in omega (arith, e, l)
 
-    written_parts : (k : ℕ) → 1 ≤ count → k ≤ root written → parts_in written k ≡ lowered low (children h (low + k))
+    written_parts : (k : ℕ) → 1 ≤ count → k ≤ root written → node_parts written k ≡ lowered low (children h (low + k))
     written_parts k some le = go (node_cases k some le)
       where
-        go : (IsLeafAt (low + k) × (k < count)) ⊎ ((count ≤ k) × (k - count < pair_count tree)) → parts_in written k ≡ lowered low (children h (low + k))
+        go : (IsLeafAt (low + k) × (k < count)) ⊎ ((count ≤ k) × (k - count < pair_count tree)) → node_parts written k ≡ lowered low (children h (low + k))
         go (inl i) = parts_before written k (let l = i.1 in let e = walks_long in omega (arith, l, e)) ∙ ap (λ o. lowered low o) (sym (leaf_none k i.0))
         go (inr i) =
             let p : Pair = pair_of low (children h (first + (k - count))) in

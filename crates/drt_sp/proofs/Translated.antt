@@ -10,7 +10,7 @@ use Rattle.drt_steps.specs.Values.{value_at}
 use Rattle.drt_steps.specs.Time.{Passes, sum_at as forest_sum}
 use Rattle.drt_tree.specs.Tree.{Plain, children, node_values_in}
 use Rattle.drt_claims.specs.Trees.{root, node_values}
-use Rattle.drt_claims.specs.Proofs.{HasPassingTime, after, after_all, halved, parts_in, parts_in, passes, tree_sum_at}
+use Rattle.drt_claims.specs.Proofs.{HasPassingTime, after, after_all, halved, node_parts, parts_in, passes, tree_sum_at}
 use Rattle.drt_claims.specs.declared.evidence.Item.{Item}
 use Rattle.drt_claims.specs.declared.evidence.Item.TheVariants.{Split}
 use Rattle.drt_claims.specs.declared.evidence.TreeClaim.{TreeClaim}
@@ -52,7 +52,7 @@ module _ (bound : ℕ) (f : Plain) where
       pair_is : children f (low + (n - low)) ≡ Some (l, r)
       pair_is = ap (children f) again ∙ pair
 
-      part_of : parts_in claim (n - low) ≡ Some (l - low, r - low)
+      part_of : node_parts claim (n - low) ≡ Some (l - low, r - low)
       part_of = is.claim_is.parts (n - low) inside ∙ ap (lowered low) pair_is
 
       part_in : IsIn g claim low l × IsIn g claim low r

@@ -6,7 +6,7 @@ use Rattle.drt_steps.specs.Values.{value_at}
 use Rattle.drt_table.specs.Machine.{Setting, IsRun, replay, is_finished, search_of}
 use Rattle.drt_table.specs.declared.step.Entry.{Entry}
 use Rattle.drt_tree.specs.Tree.{Plain, children, node_values_in}
-use Rattle.drt_claims.specs.Proofs.{parts_in}
+use Rattle.drt_claims.specs.Proofs.{node_parts}
 use Rattle.drt_claims.specs.Trees.{CoversWalks, HasShortWalks, IsAbove, IsShortWalk, IsTree, node_values, root}
 use Rattle.drt_claims.specs.declared.evidence.TreeClaim.{TreeClaim}
 use Rattle.drt_sp.specs.Written.{AreWalksInOrder, HasHalves}
@@ -20,7 +20,7 @@ lowered low (Some p) = Some (p.0 - low, p.1 - low)
 pub record IsClaimOf (g : Digraph) (bound : ℕ) (f : Plain) (low top : ℕ) (claim : TreeClaim) : Type 0 where
   pub root_is : low + root claim ≡ top
   pub within : top < length f.nodes
-  pub parts : (n : ℕ) → n ≤ root claim → parts_in claim n ≡ lowered low (children f (low + n))
+  pub parts : (n : ℕ) → n ≤ root claim → node_parts claim n ≡ lowered low (children f (low + n))
   pub above : (n l r : ℕ) → n ≤ root claim → children f (low + n) ≡ Some (l, r) → (low ≤ l) × (low ≤ r) × (l < low + n) × (r < low + n)
   pub values : (n t : ℕ) → n ≤ root claim → 1 ≤ t → t ≤ bound → slice_index_or (node_values g claim t) n 0 ≡ value_at (node_values_in f (low + n)) t
 

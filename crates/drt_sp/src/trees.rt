@@ -1,5 +1,6 @@
 //! The tree of a task's walks: from its graph to the forest and to the dossier.
 ghost use Rattle.std.specs.Prelude.{◌≡◌, ◌+◌, ◌*◌, ◌≤◌, All, IfOk, IfSome, length};
+ghost use Rattle.drt_table.specs.Machine.{search_of};
 ghost use Rattle.drt_effort.specs.Efforts.{most_budget};
 ghost use Rattle.drt_model.specs.Limits.{most_time, most_number};
 ghost use Rattle.drt_request.specs.Request.{request_algebra};

@@ -2,6 +2,7 @@
 use Rattle.std.proofs.Common.{◌≡◌, ℕ, ◌<◌, List, [], ◌∷◌, ◌++◌, Some, length, sym, ap, ◌∙◌, arith}
 use Rattle.std.specs.Prelude.{IsTrue, nat_lt}
 use Rattle.std.proofs.lemmas.Bool.Decides.{nat_tests}
+use Rattle.drt_model.specs.Limits.{IsTime}
 use Rattle.drt_graph.proofs.Edges.{gap_of, target_of}
 use Rattle.drt_graph.proofs.Paths.{path_both}
 use Rattle.drt_model.specs.Digraph.{Digraph, IsSoundGraph, vertex_count}

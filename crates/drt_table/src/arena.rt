@@ -12,6 +12,7 @@ ghost use Rattle.drt_table.specs.Node.{NodeOf, Held, is_node_pending, is_taken, 
 ghost use Rattle.drt_worklist.specs.Places.{first, changed};
 ghost use Rattle.drt_table.specs.Earliest.{earliest};
 ghost use Rattle.std.specs.Option.{ForSome};
+ghost use Rattle.drt_model.specs.Limits.{IsTime};
 ghost use Rattle.drt_table.specs.Taking.{is_soon};
 ghost use Rattle.drt_table.specs.View.{kept_at};
 

@@ -12,6 +12,7 @@ ghost use Rattle.drt_table.specs.Links.{AreLinked, AreAlone, IsPlace, IsLink, he
 ghost use Rattle.drt_table.specs.Sampled.{IsShelf};
 ghost use Rattle.drt_worklist.specs.Places.{first};
 ghost use Rattle.std.specs.Option.{ForSome};
+ghost use Rattle.drt_model.specs.Limits.{IsTime};
 
 use crate::node::{Node, Twin};
 use crate::sampling::first_told;

@@ -1,6 +1,7 @@
 //! Nodes of a table.
 
 ghost use Rattle.std.specs.Prelude.{◌≡◌, ℕ, ◌<◌, ◌^◌, ◌++◌, ◌∷◌, [], IfOk, IsTrue, true, false, Some, None};
+ghost use Rattle.drt_model.specs.Limits.{IsTime};
 ghost use Rattle.drt_table.specs.Node.{Held, is_node_pending, is_taken, is_kept, is_held_by, fresh};
 ghost use Rattle.drt_table.specs.Held.{take_by, count_offer, close_node, hand_out, fresh_held, held_offset, drop_held, dominates_held};
 

@@ -2,6 +2,7 @@
 
 ghost use Rattle.std.specs.Prelude.{◌≡◌, ℕ, ◌+◌, ◌≤◌, ◌<◌, ◌++◌, ◌∷◌, [], true, Some, slice_get, length, IfOk, IfSome, IsTrue, map, nat_le, replicate, vec_capacity};
 ghost use Rattle.std.specs.Prelude.{None, if◌then◌else◌};
+ghost use Rattle.drt_model.specs.Limits.{IsTime};
 ghost use Rattle.drt_effort.specs.Efforts.{most_budget};
 ghost use Rattle.drt_table.specs.View.{View, IsTable, setting_of, state_of, spares_of, CanApply, ComesWith, IsTableStep};
 ghost use Rattle.drt_table.specs.Machine.{opening_state, extended};

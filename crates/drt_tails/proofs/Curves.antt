@@ -4,6 +4,7 @@ use Rattle.std.specs.Prelude.{All, Contains, nat_lt}
 use Rattle.std.proofs.lemmas.Bool.{cond_both, eq-eqb, eqb-true, lt-ltb}
 use Rattle.std.proofs.lemmas.List.{get_or-map, length-map}
 use Rattle.std.proofs.lemmas.List.Elements.{All-cons, All-contains_itself, All-filter, All-map, All-nil, All-weaker, filter_passes}
+use Rattle.drt_graph.specs.FrontEntry.{IsNextEntry}
 use Rattle.drt_model.specs.Legal.{AllNeighbours}
 use Rattle.drt_graph.specs.declared.front.FrontEntry.{FrontEntry}
 use Rattle.drt_model.proofs.Neighbours.{AllNeighbours-cons, AllNeighbours-head, AllNeighbours-nil, AllNeighbours-one, AllNeighbours-tail, filter-no, filter-yes, kept}

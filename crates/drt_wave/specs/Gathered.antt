@@ -1,5 +1,6 @@
 -- The entries of a front that are gathered so far.
 use Rattle.std.specs.Prelude.{◌≡◌, ℕ, ◌+◌, ◌*◌, ◌<◌, ◌≤◌, ◌⊎◌, List, length, Contains}
+use Rattle.drt_graph.specs.FrontEntry.{IsNextEntry}
 use Rattle.drt_model.specs.Digraph.{vertex_count}
 use Rattle.drt_model.specs.Legal.{AllNeighbours}
 use Rattle.drt_graph.specs.declared.front.FrontEntry.{FrontEntry}

@@ -1,5 +1,6 @@
 -- Entries of the front of p(1,1), q(2,1), m(1,1) with the edges p-m 1, q-m 1, m-m 3 and the horizon 5.
 use Rattle.std.proofs.Common.{◌≡◌, ℕ, [], ◌∷◌, refl, lit<, lit≤, arith}
+use Rattle.drt_graph.specs.FrontEntry.{Covers}
 use Rattle.drt_model.specs.Walk.{sep_in, or_zero, work, span}
 use Rattle.drt_graph.specs.declared.front.FrontEntry.{FrontEntry}
 use Rattle.drt_edf.specs.Spent.{table_need}

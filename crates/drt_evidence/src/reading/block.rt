@@ -1,6 +1,6 @@
 //! Blocks of a text, and lists of them.
 ghost use Rattle.std.specs.Prelude.{ℕ, List, IfOk, IfErr};
-ghost use Rattle.drt_evidence.specs.Blocks.{AreSoMany, IsStop, ReadsBlock, counted_blocks, in_turn};
+ghost use Rattle.drt_evidence.specs.Blocks.{AreSoMany, IsStop, ReadsBlock, count_and_blocks, in_turn};
 ghost use Rattle.drt_evidence.specs.LineForms.{AreItemsCounted};
 ghost use Rattle.drt_file.specs.trusted.Cutting.{HasNoFeed};
 
@@ -53,8 +53,8 @@ pub(crate) fn read_counted<B: Block>(
     word: &[u8],
 ) -> Result<Row<B>, Stop>
     requires { HasNoFeed word.now }
-    ensures read { IfOk result (λ xs. ReadsBlock (counted_blocks word.now B.block) (AreItemsCounted B.is_stated) text.old.rest.now xs text.new.rest.now) }
-    ensures stops { IfErr result (IsStop (counted_blocks word.now B.block) (AreItemsCounted B.is_stated) text.old.rest.now) }
+    ensures read { IfOk result (λ xs. ReadsBlock (count_and_blocks word.now B.block) (AreItemsCounted B.is_stated) text.old.rest.now xs text.new.rest.now) }
+    ensures stops { IfErr result (IsStop (count_and_blocks word.now B.block) (AreItemsCounted B.is_stated) text.old.rest.now) }
 {
     let count = read_count(text, word)?;
     let blocks = read_each(alloc, text, count)?;

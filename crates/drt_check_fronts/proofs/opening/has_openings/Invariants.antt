@@ -1,6 +1,7 @@
 -- The vertices so far are covered, or due past the bound.
 use Rattle.std.proofs.Common.{ℕ, ◌<◌, ◌≤◌}
 use Rattle.std.specs.Prelude.{Any}
+use Rattle.drt_graph.specs.FrontEntry.{Covers}
 use Rattle.drt_model.specs.Walk.{deadline, wcet}
 use Rattle.drt_check_fronts.proofs.opening.has_openings.Given as goal
 

@@ -1,5 +1,6 @@
 -- The entries so far are in order.
 use Rattle.std.proofs.Common.{ℕ, ◌+◌, ◌<◌, get_or}
+use Rattle.drt_graph.specs.FrontEntry.{IsNextEntry}
 use Rattle.drt_graph.specs.declared.front.FrontEntry.{FrontEntry}
 use Rattle.drt_check_fronts.proofs.order.are_sorted.Given as goal
 

@@ -1,5 +1,6 @@
 use Rattle.std.proofs.Common.{[], ◌∷◌}
 use Rattle.std.specs.Prelude.{codes}
+use Rattle.drt_file.specs.trusted.Words.{policy_word}
 use Rattle.drt_evidence.proofs.Joins.{two_lines}
 use Rattle.drt_evidence.proofs.printing.push_head.Goals as goal
 

@@ -1,4 +1,5 @@
 use Rattle.std.proofs.Common.{◌<◌, ◌+◌, sym, ap, subst}
+use Rattle.drt_model.specs.Limits.{IsTime}
 use Rattle.drt_model.specs.Digraph.{vertex_count}
 use Rattle.drt_table.specs.Machine.{Setting}
 use Rattle.drt_table.proofs.Start.{IsOpened, open_room, open_vertex, open_alone, opened_more, opened_same}

@@ -1,5 +1,5 @@
 use Rattle.std.proofs.Common.{rules, sym, subst}
-use Rattle.drt_evidence.specs.Blocks.{ReadsBlock, counted_blocks}
+use Rattle.drt_evidence.specs.Blocks.{ReadsBlock, count_and_blocks}
 use Rattle.drt_evidence.specs.LineForms.{AreItemsCounted}
 use Rattle.drt_evidence.proofs.Blocks.{count_stop, counted_stop, counted_read}
 use Rattle.drt_evidence.proofs.reading.block.read_counted.Goals as goal
@@ -18,4 +18,4 @@ returns-in_err-blocks-clause-stops g c =
 pub returns-clause-read : goal.returns-clause-read
 returns-clause-read g c =
     let h = counted_read g.B.Block.block g.B.Block.is_stated c.args.word.now c.in_ok-count.ensures.read c.in_ok-blocks.ensures.read in
-    subst (λ xs. ReadsBlock (counted_blocks c.args.word.now g.B.Block.block) (AreItemsCounted g.B.Block.is_stated) c.args.text.now.rest.now xs c.read_each.new.text.rest.now) (sym c.from_vec.ensures) h
+    subst (λ xs. ReadsBlock (count_and_blocks c.args.word.now g.B.Block.block) (AreItemsCounted g.B.Block.is_stated) c.args.text.now.rest.now xs c.read_each.new.text.rest.now) (sym c.from_vec.ensures) h

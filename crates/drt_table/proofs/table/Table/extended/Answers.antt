@@ -1,5 +1,6 @@
 use Rattle.std.proofs.Common.{◌≡◌, ◌<◌, Some, length, sym, ap, ◌∙◌, subst}
 use Rattle.std.proofs.lemmas.Result.{IfOk-weaker}
+use Rattle.drt_model.specs.Limits.{IsTime}
 use Rattle.drt_model.specs.Digraph.{edge_of, vertex_of, out_degree}
 use Rattle.drt_table.specs.Machine.{extended}
 use Rattle.drt_table.specs.Node.{Held}
