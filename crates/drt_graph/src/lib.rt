@@ -8,6 +8,9 @@
 //! `potentials_fit`, `is_closed` and `is_tight` test what a claimed ratio of a graph has to keep, over plain numbers and lists,
 //! and `constant` is the constant that a ratio and potentials give. They search for nothing, so the search for the greatest
 //! ratio, the horizon and the checker of claims share them.
+//!
+//! `specs/` has what an analysis under EDF and its checker speak of: potentials, the rules of a claimed ratio, the constants and the
+//! horizon, and entries of fronts.
 #![tactic(auto)]
 
 mod building;

@@ -2,8 +2,8 @@
 //!
 //! What must be believed of the whole tool stands in `specs/` of this crate: which releases are
 //! legal, what the processor does at each tick, what a miss is, when a set is schedulable, and
-//! what the utilisation, the potentials and the horizon of a set are. No definition there speaks
-//! of an analysis. The layer above uses `legal`, the types and these definitions.
+//! what the utilisation of a set is. No definition there speaks of an analysis. The layer above
+//! uses `legal`, the types and these definitions.
 #![tactic(auto)]
 
 pub mod copying;
