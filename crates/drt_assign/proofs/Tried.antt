@@ -39,7 +39,8 @@ priority_in (t ∷ tasks) [] j e l = absurd (omega arith)
 priority_in (t ∷ tasks) (p ∷ ps) zero e l = refl
 priority_in (t ∷ tasks) (p ∷ ps) (suc j) e l = priority_in tasks ps j (omega arith) (omega arith)
 
-module _ (tasks : List Task) (m : ℕ) (ranks ps : List ℕ) (are : AreRanks (length tasks) m ranks) (k : ℕ) (l : k < length tasks) (e : get_or ranks k 0 ≡ 0) (trial : IsTrialPriorities ranks m k ps) where
+module _ (tasks : List Task) (m : ℕ) (ranks ps : List ℕ) (are : AreRanks (length tasks) m ranks) (k : ℕ) (l : k < length tasks) (e : get_or ranks k 0 ≡ 0)
+    (trial : IsTrialPriorities ranks m k ps) where
   as_many : length ps ≡ length tasks
   as_many = omega (arith, trial.are.as_many, are.as_many)
 

@@ -12,7 +12,8 @@ pub record AreApart (jobs : List Job) : Type 0 where
 
 module _ (policy : Policy) (jobs : List Job) (a : AreApart jobs) where
   -- two jobs are never to be run at one tick
-  one_at_once : (j k n : ℕ) → j < length jobs → k < length jobs → (j ≡ k → ⊥) → (job_at jobs j).time ≤ n → n < (job_at jobs j).time + (job_at jobs j).need → (job_at jobs k).time ≤ n → n < (job_at jobs k).time + (job_at jobs k).need → ⊥
+  one_at_once : (j k n : ℕ) → j < length jobs → k < length jobs → (j ≡ k → ⊥) → (job_at jobs j).time ≤ n → n < (job_at jobs j).time + (job_at jobs j).need
+      → (job_at jobs k).time ≤ n → n < (job_at jobs k).time + (job_at jobs k).need → ⊥
   one_at_once j k n lj lk ne tj dj tk dk = elim (cases_order j k) [
     | inl e ↦ ne e
     | inr (inl h) ↦ omega (arith, a.apart j k h lk)

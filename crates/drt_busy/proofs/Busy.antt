@@ -233,7 +233,8 @@ favoured_by_deadline jobs d k j h g =
     rw (lt-ltb (job_at jobs k).deadline (job_at jobs j).deadline lt) refl
 
 -- Under earliest deadline first a miss shows an interval whose jobs need more than it has ticks.
-pub edf_overload : (jobs : List Job) (j : ℕ) → (job_at jobs j).time < (job_at jobs j).deadline → Misses Edf jobs j → (s : ℕ) × (s < (job_at jobs j).deadline) × ((job_at jobs j).deadline < s + demand Edf jobs (is_due_by jobs (job_at jobs j).deadline) (length jobs) s (job_at jobs j).deadline)
+pub edf_overload : (jobs : List Job) (j : ℕ) → (job_at jobs j).time < (job_at jobs j).deadline → Misses Edf jobs j → (s : ℕ) × (s < (job_at jobs j).deadline)
+    × ((job_at jobs j).deadline < s + demand Edf jobs (is_due_by jobs (job_at jobs j).deadline) (length jobs) s (job_at jobs j).deadline)
 edf_overload jobs j h m =
     let d = (job_at jobs j).deadline in
     overload Edf jobs (is_due_by jobs d) (favoured_by_deadline jobs d) d j (record { of_set = le-leb d d (omega arith); released = h; lacks = m })

@@ -65,7 +65,8 @@ module _ (f : Job → ℕ) where
   -- a sum over jobs is the sum of the sums over the tasks
   pub sum-by_task : (n : ℕ) (jobs : List Job) → All (λ job. job.task < n) jobs → sum_by f jobs ≡ task_sums n jobs
   sum-by_task n [] h = sym (task_sums-nil n)
-  sum-by_task n (job ∷ jobs) h = omega (arith, sum_by-cons f job jobs, sum-by_task n jobs (All-tail (λ job. job.task < n) job jobs h), task_sums-cons n job jobs (All-head (λ job. job.task < n) job jobs h))
+  sum-by_task n (job ∷ jobs) h = omega
+      (arith, sum_by-cons f job jobs, sum-by_task n jobs (All-tail (λ job. job.task < n) job jobs h), task_sums-cons n job jobs (All-head (λ job. job.task < n) job jobs h))
 
 -- the jobs of task k are those of its part
 pub of_task-part : (tasks : List Task) (k : ℕ) (rs : List Release) → of_task k (jobs_of tasks rs) ≡ jobs_of tasks (part_of k rs)

@@ -58,7 +58,9 @@ module _ (t : Task) (constrained : All (IsConstrainedEdge t) t.edges) where
         let (low, high) = and_parts (leb s x.time) (leb (x.time + deadline (digraph_of t) x.vertex) d) h in
         elim (cases_lt d (y.time + deadline (digraph_of t) y.vertex)) [
           | inl over ↦ over
-          | inr under ↦ absurd (both_ways (is_due_within t s d y) k (and_from (leb s y.time) (leb (y.time + deadline (digraph_of t) y.vertex) d) (le-leb s y.time (omega (arith, leb-true s x.time low, follows_later t x y f))) (le-leb (y.time + deadline (digraph_of t) y.vertex) d under)))
+          | inr under ↦ absurd (both_ways (is_due_within t s d y) k
+              (and_from (leb s y.time) (leb (y.time + deadline (digraph_of t) y.vertex) d) (le-leb s y.time (omega (arith, leb-true s x.time low, follows_later t x y f)))
+              (le-leb (y.time + deadline (digraph_of t) y.vertex) d under)))
         ]
 
     due_stays : (x y : Release) → Follows t x y → d < x.time + deadline (digraph_of t) x.vertex → d < y.time + deadline (digraph_of t) y.vertex
@@ -77,7 +79,8 @@ module _ (t : Task) (constrained : All (IsConstrainedEdge t) t.edges) where
         (leb-true s r.time low, leb-true (r.time + deadline (digraph_of t) r.vertex) d high)
 
 -- a window's releases are due within its length
-pub window_due : (version : ℕ) (t : Task) → IsTask version t → (s d : ℕ) → s ≤ d → (rs : List Release) → IsLegalPart t rs → All (λ r. (s ≤ r.time) × (r.time + deadline (digraph_of t) r.vertex ≤ d)) rs → due_of (digraph_of t) (walk_of rs) ≤ d - s
+pub window_due : (version : ℕ) (t : Task) → IsTask version t → (s d : ℕ) → s ≤ d → (rs : List Release) → IsLegalPart t rs
+    → All (λ r. (s ≤ r.time) × (r.time + deadline (digraph_of t) r.vertex ≤ d)) rs → due_of (digraph_of t) (walk_of rs) ≤ d - s
 window_due version t ok s d le [] part all = omega arith
 window_due version t ok s d le (r ∷ rs) part all =
     let here = All-head (λ r. (s ≤ r.time) × (r.time + deadline (digraph_of t) r.vertex ≤ d)) r rs all in

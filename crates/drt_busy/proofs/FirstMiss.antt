@@ -27,7 +27,8 @@ same_task version tasks ok r s k l e =
     let hs = slice_get_within tasks s.task l.task l.is_task in
     let tr : get_or tasks r.task k.task ≡ k.task = get_or_from_slice_get tasks r.task k.task k.task k.is_task in
     let ts : get_or tasks s.task k.task ≡ l.task = get_or_from_slice_get tasks s.task l.task k.task l.is_task in
-    let same : (get_or tasks r.task k.task).priority ≡ (get_or tasks s.task k.task).priority = ap (λ x. x.priority) tr ∙ sym (priority_of_known tasks r k) ∙ e ∙ priority_of_known tasks s l ∙ ap (λ x. x.priority) (sym ts) in
+    let same : (get_or tasks r.task k.task).priority ≡ (get_or tasks s.task k.task).priority = ap (λ x. x.priority) tr ∙ sym (priority_of_known tasks r k) ∙ e
+        ∙ priority_of_known tasks s l ∙ ap (λ x. x.priority) (sym ts) in
     elim (cases_order r.task s.task) [
       | inl done' ↦ done'
       | inr (inl lt) ↦ absurd (ok.distinct_priorities r.task s.task k.task lt hs same)
@@ -61,14 +62,17 @@ module _ (version : ℕ) (tasks : List Task) (ok : IsTaskSet version tasks) (con
         rw e (omega (arith, task_mono i m (omega arith), legal.in_order (i + m) no_release (omega arith)))
 
     -- a step within a task
-    step_within : (i : ℕ) (h : i + 1 < length rs) (k : Known tasks (get_or rs i no_release)) → (get_or rs i no_release).task ≡ (get_or rs (i + 1) no_release).task → ((get_or rs i no_release).time + k.vertex.deadline ≤ (get_or rs (i + 1) no_release).time) × ((get_or rs i no_release).time < (get_or rs (i + 1) no_release).time)
+    step_within : (i : ℕ) (h : i + 1 < length rs) (k : Known tasks (get_or rs i no_release)) → (get_or rs i no_release).task ≡ (get_or rs (i + 1) no_release).task
+        → ((get_or rs i no_release).time + k.vertex.deadline ≤ (get_or rs (i + 1) no_release).time) × ((get_or rs i no_release).time < (get_or rs (i + 1) no_release).time)
     step_within i h k same = elim (step_if_legal tasks rs legal i no_release h) [
       | inl later ↦ absurd (omega arith)
       | inr step ↦ next_later (get_or rs i no_release) (get_or rs (i + 1) no_release) k (rw k.is_task at step.1)
     ]
 
     -- a job is due before a later one of its task is released
-    due_before : (i m : ℕ) (h : i + suc m < length rs) (k : Known tasks (get_or rs i no_release)) → (get_or rs i no_release).task ≡ (get_or rs (i + suc m) no_release).task → ((get_or rs i no_release).time + k.vertex.deadline ≤ (get_or rs (i + suc m) no_release).time) × ((get_or rs i no_release).time < (get_or rs (i + suc m) no_release).time)
+    due_before : (i m : ℕ) (h : i + suc m < length rs) (k : Known tasks (get_or rs i no_release))
+        → (get_or rs i no_release).task ≡ (get_or rs (i + suc m) no_release).task
+        → ((get_or rs i no_release).time + k.vertex.deadline ≤ (get_or rs (i + suc m) no_release).time) × ((get_or rs i no_release).time < (get_or rs (i + suc m) no_release).time)
     due_before i zero h k same =
         let e : i + suc zero ≡ i + 1 = omega arith in
         rw e (step_within i (omega arith) k (rw e at same))
@@ -92,7 +96,8 @@ module _ (version : ℕ) (tasks : List Task) (ok : IsTaskSet version tasks) (con
         omega arith
 
     -- the first miss of a task
-    pub earlier_done : (j : ℕ) → j < length rs → ((i : ℕ) → i < j → (get_or rs i no_release).task ≡ (get_or rs j no_release).task → Misses Fixed (jobs_of tasks rs) i → ⊥) → AreEarlierDone (jobs_of tasks rs) j
+    pub earlier_done : (j : ℕ) → j < length rs → ((i : ℕ) → i < j → (get_or rs i no_release).task ≡ (get_or rs j no_release).task → Misses Fixed (jobs_of tasks rs) i → ⊥)
+        → AreEarlierDone (jobs_of tasks rs) j
     earlier_done j l no_miss i ne same time =
         let jobs = jobs_of tasks rs in
         elim (cases_lt i (length rs)) [
@@ -101,10 +106,12 @@ module _ (version : ℕ) (tasks : List Task) (ok : IsTaskSet version tasks) (con
               (let ji = job_at-jobs_of tasks rs i here in
               let jj = job_at-jobs_of tasks rs j l in
               let k = release_known i here in
-              let same' : (get_or rs i no_release).task ≡ (get_or rs j no_release).task = same_task version tasks ok (get_or rs i no_release) (get_or rs j no_release) k (release_known j l) (sym (ap (λ x. x.priority) ji) ∙ same ∙ ap (λ x. x.priority) jj) in
+              let same' : (get_or rs i no_release).task ≡ (get_or rs j no_release).task = same_task version tasks ok (get_or rs i no_release) (get_or rs j no_release) k
+                  (release_known j l) (sym (ap (λ x. x.priority) ji) ∙ same ∙ ap (λ x. x.priority) jj) in
               let ti = ap (λ x. x.time) ji in
               let tj = ap (λ x. x.time) jj in
-              let d : (job_at jobs i).deadline ≡ (get_or rs i no_release).time + k.vertex.deadline = ap (λ x. x.deadline) ji ∙ ap (λ x. (get_or rs i no_release).time + x) (deadline_of_known tasks (get_or rs i no_release) k) in
+              let d : (job_at jobs i).deadline ≡ (get_or rs i no_release).time + k.vertex.deadline = ap (λ x. x.deadline) ji
+                  ∙ ap (λ x. (get_or rs i no_release).time + x) (deadline_of_known tasks (get_or rs i no_release) k) in
               elim (cases_order i j) [
                 | inl e ↦ absurd (ne e)
                 | inr (inl lt) ↦

@@ -27,17 +27,20 @@ module _ (jobs : List Job) where
   pub higher_favoured : (j : ℕ) → IsFavoured Fixed jobs (is_higher j)
   unfolding goes_before is_before is_higher
   higher_favoured j k i h g =
-      let lt : (job_at jobs k).priority < (job_at jobs i).priority = omega (arith, ltb-true (job_at jobs k).priority (job_at jobs j).priority h, ltb-false (job_at jobs i).priority (job_at jobs j).priority g) in
+      let lt : (job_at jobs k).priority < (job_at jobs i).priority = omega
+          (arith, ltb-true (job_at jobs k).priority (job_at jobs j).priority h, ltb-false (job_at jobs i).priority (job_at jobs j).priority g) in
       rw (lt-ltb (job_at jobs k).priority (job_at jobs i).priority lt) refl
 
   -- a job that j doesn't go before is of a higher task, or of the same one and no later
-  no_lower : (j i : ℕ) → goes_before Fixed jobs j i ≡ false → ((job_at jobs i).priority < (job_at jobs j).priority) ⊎ (((job_at jobs i).priority ≡ (job_at jobs j).priority) × ((job_at jobs i).time ≤ (job_at jobs j).time))
+  no_lower : (j i : ℕ) → goes_before Fixed jobs j i ≡ false
+      → ((job_at jobs i).priority < (job_at jobs j).priority) ⊎ (((job_at jobs i).priority ≡ (job_at jobs j).priority) × ((job_at jobs i).time ≤ (job_at jobs j).time))
   unfolding goes_before is_before
   no_lower j i h = tests_say (job_at jobs i).priority (job_at jobs j).priority (job_at jobs i).time (job_at jobs j).time h
 
   -- earlier jobs of its task are done when job j is released
   abbrev pub AreEarlierDone : ℕ → Type 0
-  AreEarlierDone j = (i : ℕ) → (i ≡ j → ⊥) → (job_at jobs i).priority ≡ (job_at jobs j).priority → (job_at jobs i).time ≤ (job_at jobs j).time → (job_at jobs i).need ≤ done Fixed jobs i (job_at jobs j).time
+  AreEarlierDone j = (i : ℕ) → (i ≡ j → ⊥) → (job_at jobs i).priority ≡ (job_at jobs j).priority → (job_at jobs i).time ≤ (job_at jobs j).time
+      → (job_at jobs i).need ≤ done Fixed jobs i (job_at jobs j).time
 
   pub is_higher-self : (j : ℕ) → is_higher j j ≡ false
   unfolding is_higher
@@ -98,13 +101,15 @@ module _ (jobs : List Job) where
     ]
 
   -- a job that lacks ticks at d: from some start of the higher tasks' busy time no length up to d has room
-  pub late_overload : (j d : ℕ) → AreEarlierDone j → done Fixed jobs j d < (job_at jobs j).need → (s : ℕ) × (s ≤ (job_at jobs j).time) × ((t : ℕ) → 1 ≤ t → (job_at jobs j).time + t ≤ d → t < (job_at jobs j).need + demand Fixed jobs (is_higher j) (length jobs) s (s + t))
+  pub late_overload : (j d : ℕ) → AreEarlierDone j → done Fixed jobs j d < (job_at jobs j).need → (s : ℕ) × (s ≤ (job_at jobs j).time)
+      × ((t : ℕ) → 1 ≤ t → (job_at jobs j).time + t ≤ d → t < (job_at jobs j).need + demand Fixed jobs (is_higher j) (length jobs) s (s + t))
   late_overload j d earlier miss =
       let r = (job_at jobs j).time in
       let p = is_higher j in
       let p' = is_higher_or j in
       let (s, h, q, f) = last_quiet Fixed jobs p r in
-      let higher : (n : ℕ) → s ≤ n → n < r → is_pick_in p (pick Fixed jobs n) ≡ true = λ n l u. (let w = f (suc n) (omega arith) (omega arith) in busy_before Fixed jobs p (higher_favoured j) n w.0 w.1) in
+      let higher : (n : ℕ) → s ≤ n → n < r
+          → is_pick_in p (pick Fixed jobs n) ≡ true = λ n l u. (let w = f (suc n) (omega arith) (omega arith) in busy_before Fixed jobs p (higher_favoured j) n w.0 w.1) in
       let quiet : IsQuiet Fixed jobs p' s = λ i e l. elim (or_cases (is_higher j i) (eqb i j) (as_or j i e)) [
         | inl t ↦ q i t l
         | inr t ↦ absurd (omega (arith, ap (λ k. (job_at jobs k).time) (eqb-true i j t)))
@@ -128,5 +133,6 @@ module _ (jobs : List Job) where
             ]),
       )
 
-  pub fixed_overload : (j : ℕ) → AreEarlierDone j → Misses Fixed jobs j → (s : ℕ) × (s ≤ (job_at jobs j).time) × ((t : ℕ) → 1 ≤ t → (job_at jobs j).time + t ≤ (job_at jobs j).deadline → t < (job_at jobs j).need + demand Fixed jobs (is_higher j) (length jobs) s (s + t))
+  pub fixed_overload : (j : ℕ) → AreEarlierDone j → Misses Fixed jobs j → (s : ℕ) × (s ≤ (job_at jobs j).time)
+      × ((t : ℕ) → 1 ≤ t → (job_at jobs j).time + t ≤ (job_at jobs j).deadline → t < (job_at jobs j).need + demand Fixed jobs (is_higher j) (length jobs) s (s + t))
   fixed_overload j earlier miss = late_overload j (job_at jobs j).deadline earlier miss

@@ -46,7 +46,8 @@ from_needs a b (r ∷ rs) = elim (cases_Bool (leb a r.time)) [
 ]
 
 -- what a part released from a on needs before b is asked for by its walk
-pub asked : (version : ℕ) (t : Task) → IsTask version t → (a b : ℕ) (rs : List Release) → IsLegalPart t rs → All (λ r. a ≤ r.time) rs → sum_by (λ r. cond (ltb r.time b) r.need 0) rs ≤ request_of (digraph_of t) (walk_of rs) (b - a)
+pub asked : (version : ℕ) (t : Task) → IsTask version t → (a b : ℕ) (rs : List Release) → IsLegalPart t rs → All (λ r. a ≤ r.time) rs
+    → sum_by (λ r. cond (ltb r.time b) r.need 0) rs ≤ request_of (digraph_of t) (walk_of rs) (b - a)
 asked version t ok a b [] part from = omega arith
 asked version t ok a b (r ∷ rs) part from =
     let here = All-head (λ r. a ≤ r.time) r rs from in
@@ -59,7 +60,8 @@ module _ (tasks : List Task) (k : ℕ) (h : k < length tasks) (p a b : ℕ) wher
   one_above : (r : Release) → r.task ≡ k → cond (is_above p a b (job_of tasks r)) r.need 0 ≡ cond (ltb (task_at tasks k).priority p && (leb a r.time && ltb r.time b)) r.need 0
   one_above r e = ap (λ x. cond (ltb x p && (leb a r.time && ltb r.time b)) r.need 0) (priority_here r e)
 
-  part_above : (rs : List Release) → sum_by (λ r. cond (is_above p a b (job_of tasks r)) r.need 0) (part_of k rs) ≡ sum_by (λ r. cond (ltb (task_at tasks k).priority p && (leb a r.time && ltb r.time b)) r.need 0) (part_of k rs)
+  part_above : (rs : List Release) → sum_by (λ r. cond (is_above p a b (job_of tasks r)) r.need 0) (part_of k rs) ≡ sum_by
+      (λ r. cond (ltb (task_at tasks k).priority p && (leb a r.time && ltb r.time b)) r.need 0) (part_of k rs)
   part_above [] = refl
   part_above (r ∷ rs) = elim (cases_eq r.task k) [
     | inl e ↦ rw (eq-eqb r.task k e) (omega (
@@ -131,11 +133,13 @@ module _ (version : ℕ) (tasks : List Task) (ok : IsTaskSet version tasks) (con
         let job = job_at-jobs_of tasks rs j h in
         let earlier_of_k : (i : ℕ) → i < j → (job_at jobs i).task ≡ (job_at jobs j).task → (get_or rs i no_release).task ≡ k =
         λ i lt same. sym (ap (λ x. x.task) (job_at-jobs_of tasks rs i (omega arith))) ∙ same ∙ ap (λ x. x.task) job ∙ of_k in
-        let (earlier, start) = misses_pass_no_time version tasks ok constrained rs legal j h miss (λ i lt same missed. none_misses pass m i (omega arith) (omega arith) (earlier_of_k i lt same) missed) in
+        let (earlier, start) = misses_pass_no_time version tasks ok constrained rs legal j h miss
+            (λ i lt same missed. none_misses pass m i (omega arith) (omega arith) (earlier_of_k i lt same) missed) in
         let (s, low, f) = start in
         let found : slice_get tasks k ≡ Some known_r.task = subst (λ n. slice_get tasks n ≡ Some known_r.task) of_k known_r.is_task in
         let task : task_at tasks k ≡ known_r.task = get_or_from_slice_get tasks k known_r.task no_task found in
-        let here : r.vertex < length (task_at tasks k).vertices = subst (λ t. r.vertex < length t.vertices) (sym task) (slice_get_within known_r.task.vertices r.vertex known_r.vertex known_r.is_vertex) in
+        let here : r.vertex < length (task_at tasks k).vertices = subst (λ t. r.vertex < length t.vertices) (sym task)
+            (slice_get_within known_r.task.vertices r.vertex known_r.vertex known_r.is_vertex) in
         let vertex = ap (λ t. get_or t.vertices r.vertex no_vertex) task ∙ get_or_from_slice_get known_r.task.vertices r.vertex known_r.vertex no_vertex known_r.is_vertex in
         let priority : (job_at jobs j).priority ≡ (task_at tasks k).priority = ap (λ x. x.priority) job ∙ rw (known_r.is_task) (ap (λ t. t.priority) (sym task)) in
         let (t, one, due, fits) = pass r.vertex here (walk_from s) (are_walks s) in

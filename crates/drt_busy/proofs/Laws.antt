@@ -47,7 +47,8 @@ module _ (policy : Policy) (jobs : List Job) where
   least_below zero = inl (λ i h. absurd (omega arith))
   least_below (suc m) = elim (cases_lt (done policy jobs m (job_at jobs m).deadline) (job_at jobs m).need) [
     | inr met ↦ elim (least_below m) [
-      | inl none ↦ inl (λ i h miss. elim (cases_eq i m) [ inl e ↦ omega (arith, miss, met, ap (λ x. done policy jobs x (job_at jobs x).deadline) e, ap (λ x. (job_at jobs x).need) e) | inr ne ↦ none i (omega arith) miss ])
+      | inl none ↦ inl (λ i h miss. elim (cases_eq i m)
+          [ inl e ↦ omega (arith, miss, met, ap (λ x. done policy jobs x (job_at jobs x).deadline) e, ap (λ x. (job_at jobs x).need) e) | inr ne ↦ none i (omega arith) miss ])
       | inr (k, (h, miss, least)) ↦ inr (
         k,
         (
@@ -140,7 +141,8 @@ overload_misses policy jobs timed t h =
     let test : Job → Bool = λ job. leb job.deadline t in
     overloaded_misses policy jobs t (omega (arith, h, due_timed t jobs timed, demand-sum policy jobs test 0 t))
 
-pub above_work : (jobs : List Job) (j s t : ℕ) → t < (job_at jobs j).need + demand Fixed jobs (is_higher jobs j) (length jobs) s (s + t) → t < (job_at jobs j).need + needs (is_above (job_at jobs j).priority s (s + t)) jobs
+pub above_work : (jobs : List Job) (j s t : ℕ) → t < (job_at jobs j).need + demand Fixed jobs (is_higher jobs j) (length jobs) s (s + t)
+    → t < (job_at jobs j).need + needs (is_above (job_at jobs j).priority s (s + t)) jobs
 unfolding is_higher
 above_work jobs j s t h =
     let test : Job → Bool = λ job. ltb job.priority (job_at jobs j).priority in

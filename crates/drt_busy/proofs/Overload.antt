@@ -85,7 +85,8 @@ module _ (jobs : List Job) (j b : ℕ) where
   ]
 
 -- Under fixed priorities: when job j has its last tick, its need and all that the higher tasks released before have had their ticks.
-pub finish_fits : (jobs : List Job) (j n : ℕ) → pick Fixed jobs n ≡ Some j → done Fixed jobs j (suc n) ≡ (job_at jobs j).need → demand Fixed jobs (is_higher jobs j) (length jobs) 0 (suc n) + (job_at jobs j).need ≤ suc n
+pub finish_fits : (jobs : List Job) (j n : ℕ) → pick Fixed jobs n ≡ Some j → done Fixed jobs j (suc n) ≡ (job_at jobs j).need
+    → demand Fixed jobs (is_higher jobs j) (length jobs) 0 (suc n) + (job_at jobs j).need ≤ suc n
 finish_fits jobs j n e last =
     let q = pick_pending Fixed jobs n j e in
     let here = in_range Fixed jobs n j q in
@@ -94,7 +95,8 @@ finish_fits jobs j n e last =
       | inr s ↦ (let same = eqb-true i j s in omega (arith, last, ap (λ k. (job_at jobs k).need) same, ap (λ k. done Fixed jobs k (suc n)) same))
       | inl h ↦ elim (cases_lt (done Fixed jobs i n) (job_at jobs i).need) [
         | inr had ↦ omega (arith, had, done-le-suc Fixed jobs i n)
-        | inl lacks ↦ absurd (both_ways (goes_before Fixed jobs i j) (pick_first Fixed jobs n j i e (record { released = omega arith; lacks = lacks })) (higher_favoured jobs j i j h (is_higher-self jobs j)))
+        | inl lacks ↦ absurd (both_ways (goes_before Fixed jobs i j) (pick_first Fixed jobs n j i e (record { released = omega arith; lacks = lacks }))
+            (higher_favoured jobs j i j h (is_higher-self jobs j)))
       ]
     ] in
     omega (arith, demand-with jobs j (suc n) (length jobs) here (omega (arith, q.released)), done_fits Fixed jobs (is_higher_or jobs j) (suc n) (suc n) met)

@@ -76,7 +76,8 @@ module _ (version : ℕ) (t : Task) (ok : IsTask version t) where
   -- what a release says of its vertex
   pub release_is : (r : Release) → IsReleaseOf t r → (r.vertex < length t.vertices) × (1 ≤ r.need) × (r.need ≤ wcet (digraph_of t) r.vertex)
   release_is r h = by_vertex (slice_get t.vertices r.vertex) refl h where
-    by_vertex : (o : Option Vertex) → slice_get t.vertices r.vertex ≡ o → IsSomeAnd o (λ v. (1 ≤ r.need) × (r.need ≤ v.wcet)) → (r.vertex < length t.vertices) × (1 ≤ r.need) × (r.need ≤ wcet (digraph_of t) r.vertex)
+    by_vertex : (o : Option Vertex) → slice_get t.vertices r.vertex ≡ o → IsSomeAnd o (λ v. (1 ≤ r.need) × (r.need ≤ v.wcet)) → (r.vertex < length t.vertices)
+        × (1 ≤ r.need) × (r.need ≤ wcet (digraph_of t) r.vertex)
     by_vertex None e k = absurd k
     by_vertex (Some v) e k = (
       slice_get_within t.vertices r.vertex v e,
@@ -109,7 +110,8 @@ module _ (version : ℕ) (t : Task) (ok : IsTask version t) where
       omega arith
   part_due a d r (s ∷ rs) from due steps =
       let (e, later) = follows_edge r s (AllNeighbours-head (Follows t) r s rs steps) in
-      let rest = part_due (a + gap (digraph_of t) r.vertex s.vertex) d s rs (omega arith) (All-tail (λ x. x.time + deadline (digraph_of t) x.vertex ≤ d) r (s ∷ rs) due) (AllNeighbours-tail (Follows t) r (s ∷ rs) steps) in
+      let rest = part_due (a + gap (digraph_of t) r.vertex s.vertex) d s rs (omega arith) (All-tail (λ x. x.time + deadline (digraph_of t) x.vertex ≤ d) r (s ∷ rs) due)
+          (AllNeighbours-tail (Follows t) r (s ∷ rs) steps) in
       omega arith
 
   -- and so what is released before b is asked for by then

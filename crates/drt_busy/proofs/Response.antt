@@ -30,7 +30,8 @@ use Rattle.drt_busy.proofs.WalkReleases.{releases_above, releases_legal}
 use Rattle.drt_busy.specs.Response.{MeetsDeadlines, IsJobOf, FinishesWithin, IsResponse, IsGreatestResponse, load, IsLeastFit, FitsWithin, IsGreatestFit, ResponseDecides, reaching, ReleasesReach, CutsAreReleases}
 use Rattle.drt_busy.proofs.Cuts.{cut_walks, are_cut, cut_sums, cut_releases}
 
-module _ (version : ℕ) (tasks : List Task) (ok : IsTaskSet version tasks) (constrained : AreConstrained tasks) (k v : ℕ) (h : k < length tasks) (here : v < vertex_count (graph_at tasks k)) (meets : MeetsDeadlines tasks k) where
+module _ (version : ℕ) (tasks : List Task) (ok : IsTaskSet version tasks) (constrained : AreConstrained tasks) (k v : ℕ) (h : k < length tasks)
+    (here : v < vertex_count (graph_at tasks k)) (meets : MeetsDeadlines tasks k) where
   -- a job that lacks ticks m ticks after its release: the walks of what is released in the busy time leave no room up to m
   module _ (rs : List Release) (legal : IsLegal tasks rs) (j : ℕ) (r : Release) (of : IsJobOf rs k v j r) where
     pub within : j < length rs
@@ -111,10 +112,12 @@ module _ (version : ℕ) (tasks : List Task) (ok : IsTaskSet version tasks) (con
     some_wcet = let vertex : IsVertex (get_or (task_at tasks k).vertices v no_vertex) = (ok.each k no_task h).vertices v no_vertex here in vertex.wcet.0
 
     -- what the higher jobs of these releases need
-    higher_needs : (j t : ℕ) → slice_get all_of j ≡ Some (release_at (graph_at tasks k) k 0 v) → needs (is_above (job_at (jobs_of tasks all_of) j).priority 0 t) (jobs_of tasks all_of) ≡ requests tasks walks (task_at tasks k).priority (length tasks) t
+    higher_needs : (j t : ℕ) → slice_get all_of j ≡ Some (release_at (graph_at tasks k) k 0 v)
+        → needs (is_above (job_at (jobs_of tasks all_of) j).priority 0 t) (jobs_of tasks all_of) ≡ requests tasks walks (task_at tasks k).priority (length tasks) t
     higher_needs j t at =
         let of : IsJobOf all_of k v j (release_at (graph_at tasks k) k 0 v) = record { at = at; task = refl; vertex = refl } in
-        let e : (job_at (jobs_of tasks all_of) j).priority ≡ (task_at tasks k).priority = ap (λ (x : Job). x.priority) (job_is all_of reach_legal j (release_at (graph_at tasks k) k 0 v) of) ∙ priority_here tasks k h 0 0 0 (release_at (graph_at tasks k) k 0 v) refl in
+        let e : (job_at (jobs_of tasks all_of) j).priority ≡ (task_at tasks k).priority = ap (λ (x : Job). x.priority)
+            (job_is all_of reach_legal j (release_at (graph_at tasks k) k 0 v) of) ∙ priority_here tasks k h 0 0 0 (release_at (graph_at tasks k) k 0 v) refl in
         ap (λ p. needs (is_above p 0 t) (jobs_of tasks all_of)) e
         ∙ (releases_above version tasks ok (with_job tasks walks k v) (with_walks tasks walks k v are here) (task_at tasks k).priority t ∙ with_requests tasks walks k v (length tasks) t)
 
@@ -131,7 +134,8 @@ module _ (version : ℕ) (tasks : List Task) (ok : IsTaskSet version tasks) (con
         (suc n, omega arith, omega arith, omega (arith, fits, demands, asks, need))
 
     -- where n has room, the job has had its need after n ticks
-    pub room_finishes : (j n : ℕ) → slice_get all_of j ≡ Some (release_at (graph_at tasks k) k 0 v) → 1 ≤ n → load tasks walks k v n ≤ n → wcet (graph_at tasks k) v ≤ done Fixed (jobs_of tasks all_of) j n
+    pub room_finishes : (j n : ℕ) → slice_get all_of j ≡ Some (release_at (graph_at tasks k) k 0 v) → 1 ≤ n → load tasks walks k v n ≤ n
+        → wcet (graph_at tasks k) v ≤ done Fixed (jobs_of tasks all_of) j n
     room_finishes j n at one fits = elim (cases_lt (done Fixed (jobs_of tasks all_of) j n) (wcet (graph_at tasks k) v)) [
       | inr had ↦ had
       | inl lacks ↦ absurd (

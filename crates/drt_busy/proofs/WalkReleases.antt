@@ -25,7 +25,8 @@ use Rattle.drt_busy.proofs.FixedWalks.{priority_here}
 use Rattle.drt_busy.proofs.PartWalk.{out_is}
 
 -- neighbours in two lists one after the other
-append_neighbours : {X : Type 0} (R : X → X → Type 0) (P Q : X → Type 0) (xs ys : List X) → AllNeighbours R xs → AllNeighbours R ys → All P xs → All Q ys → ((x y : X) → P x → Q y → R x y) → AllNeighbours R (xs ++ ys)
+append_neighbours : {X : Type 0} (R : X → X → Type 0) (P Q : X → Type 0) (xs ys : List X) → AllNeighbours R xs → AllNeighbours R ys → All P xs → All Q ys
+    → ((x y : X) → P x → Q y → R x y) → AllNeighbours R (xs ++ ys)
 append_neighbours R P Q [] ys a b p q cross = b
 append_neighbours R P Q (x ∷ []) [] a b p q cross = AllNeighbours-one R x
 append_neighbours R P Q (x ∷ []) (y ∷ ys) a b p q cross = AllNeighbours-cons R x y ys (cross x y (p 0 x (omega arith)) (q 0 y (omega arith))) b
@@ -49,7 +50,8 @@ sep_last (x ∷ xs) u v p h = elim (cases_Bool (eqb x.from u)) [
 
 module _ (version : ℕ) (t : Task) (ok : IsTask version t) where
   -- an edge of the graph is one of the task
-  edge_is : (u v : ℕ) → u < length t.vertices → IsEdge (digraph_of t) u v → (i : ℕ) × (e : Edge) × (i < length t.edges) × (get_or t.edges i e ≡ e) × (e.from ≡ u) × (e.to ≡ v) × (e.sep ≡ gap (digraph_of t) u v)
+  edge_is : (u v : ℕ) → u < length t.vertices → IsEdge (digraph_of t) u v → (i : ℕ) × (e : Edge) × (i < length t.edges) × (get_or t.edges i e ≡ e) × (e.from ≡ u)
+      × (e.to ≡ v) × (e.sep ≡ gap (digraph_of t) u v)
   edge_is u v h edge = sep_last t.edges u v (gap (digraph_of t) u v) (ap (λ es. sep_in es v) (sym (out_is version t ok u h)) ∙ edge)
 
   edge_to : (u v : ℕ) → u < length t.vertices → IsEdge (digraph_of t) u v → v < length t.vertices
@@ -92,7 +94,8 @@ module _ (version : ℕ) (t : Task) (ok : IsTask version t) where
         AllNeighbours-cons (IsAllowedStep tasks) (release_at (digraph_of t) k x u) (release_at (digraph_of t) k (x + gap (digraph_of t) u v) v) []
         (step_allowed x u v h path.0) (from_steps (x + gap (digraph_of t) u v) v [] (edge_to u v h path.0) path.1)
     from_steps x u (v ∷ (w ∷ vs)) h path =
-        AllNeighbours-cons (IsAllowedStep tasks) (release_at (digraph_of t) k x u) (release_at (digraph_of t) k (x + gap (digraph_of t) u v) v) (releases_from (digraph_of t) k (x + gap (digraph_of t) u v + gap (digraph_of t) v w) w vs)
+        AllNeighbours-cons (IsAllowedStep tasks) (release_at (digraph_of t) k x u) (release_at (digraph_of t) k (x + gap (digraph_of t) u v) v)
+            (releases_from (digraph_of t) k (x + gap (digraph_of t) u v + gap (digraph_of t) v w) w vs)
         (step_allowed x u v h path.0) (from_steps (x + gap (digraph_of t) u v) v (w ∷ vs) (edge_to u v h path.0) path.1)
 
 -- the releases of task k are of task k
@@ -106,7 +109,8 @@ of_task g k [] = All-nil (λ r. r.task ≡ k)
 of_task g k (u ∷ vs) = from_task g k 0 u vs
 
 module _ (version : ℕ) (tasks : List Task) (ok : IsTaskSet version tasks) where
-  task_allowed : (k : ℕ) → k < length tasks → (walk : List ℕ) → IsWalk (graph_at tasks k) walk → All (IsAllowed tasks) (releases_of (graph_at tasks k) k walk) × AllNeighbours (IsAllowedStep tasks) (releases_of (graph_at tasks k) k walk)
+  task_allowed : (k : ℕ) → k < length tasks → (walk : List ℕ) → IsWalk (graph_at tasks k) walk → All (IsAllowed tasks) (releases_of (graph_at tasks k) k walk)
+      × AllNeighbours (IsAllowedStep tasks) (releases_of (graph_at tasks k) k walk)
   task_allowed k h [] w = (All-nil (IsAllowed tasks), AllNeighbours-nil (IsAllowedStep tasks))
   task_allowed k h (u ∷ vs) w =
       let at_k = slice_get-get_or tasks k no_task h in
@@ -143,7 +147,8 @@ nothing_works g = refl
 
 -- what the releases of a walk need
 module _ (version : ℕ) (tasks : List Task) (ok : IsTaskSet version tasks) (k : ℕ) (h : k < length tasks) where
-  due_one : (p : Release → ℕ) (t x u : ℕ) → x + deadline (graph_at tasks k) u ≤ t → cond (is_due 0 t (job_of tasks (release_at (graph_at tasks k) k x u))) (wcet (graph_at tasks k) u) 0 ≡ wcet (graph_at tasks k) u
+  due_one : (p : Release → ℕ) (t x u : ℕ) → x + deadline (graph_at tasks k) u ≤ t
+      → cond (is_due 0 t (job_of tasks (release_at (graph_at tasks k) k x u))) (wcet (graph_at tasks k) u) 0 ≡ wcet (graph_at tasks k) u
   due_one p t x u le =
       let d = deadline_here tasks k h 0 t (release_at (graph_at tasks k) k x u) refl in
       let z : leb 0 x ≡ true = le-leb 0 x (omega arith) in
@@ -173,13 +178,15 @@ module _ (version : ℕ) (tasks : List Task) (ok : IsTaskSet version tasks) (k :
   walk_due constrained t [] w le = nothing_works (graph_at tasks k)
   walk_due constrained t (u ∷ vs) w le = (from_due constrained t 0 u vs w.0 w.1 (omega arith)).1
 
-  above_one : (p t x u : ℕ) → cond (is_above p 0 t (job_of tasks (release_at (graph_at tasks k) k x u))) (wcet (graph_at tasks k) u) 0 ≡ cond (ltb (task_at tasks k).priority p && ltb x t) (wcet (graph_at tasks k) u) 0
+  above_one : (p t x u : ℕ) → cond (is_above p 0 t (job_of tasks (release_at (graph_at tasks k) k x u))) (wcet (graph_at tasks k) u) 0 ≡ cond
+      (ltb (task_at tasks k).priority p && ltb x t) (wcet (graph_at tasks k) u) 0
   above_one p t x u =
       let e = priority_here tasks k h p 0 t (release_at (graph_at tasks k) k x u) refl in
       let z : leb 0 x ≡ true = le-leb 0 x (omega arith) in
       rw (z, e) refl
 
-  from_above : (p t x u : ℕ) (vs : List ℕ) → ltb (task_at tasks k).priority p ≡ true → sum_by (λ r. cond (is_above p 0 t (job_of tasks r)) r.need 0) (releases_from (graph_at tasks k) k x u vs) ≡ requested_from (graph_at tasks k) x u vs t
+  from_above : (p t x u : ℕ) (vs : List ℕ) → ltb (task_at tasks k).priority p ≡ true
+      → sum_by (λ r. cond (is_above p 0 t (job_of tasks r)) r.need 0) (releases_from (graph_at tasks k) k x u vs) ≡ requested_from (graph_at tasks k) x u vs t
   unfolding releases_from requested_from
   from_above p t x u [] higher =
       let g = graph_at tasks k in
@@ -192,7 +199,8 @@ module _ (version : ℕ) (tasks : List Task) (ok : IsTaskSet version tasks) (k :
       let one : cond (is_above p 0 t (job_of tasks (release_at g k x u))) (wcet g u) 0 ≡ cond (ltb x t) (wcet g u) 0 = rw higher at (above_one p t x u) in
       omega (arith, sum_by-cons f (release_at g k x u) (releases_from g k (x + gap g u v) v vs), one, from_above p t (x + gap g u v) v vs higher)
 
-  walk_above : (p t : ℕ) (walk : List ℕ) → ltb (task_at tasks k).priority p ≡ true → sum_by (λ r. cond (is_above p 0 t (job_of tasks r)) r.need 0) (releases_of (graph_at tasks k) k walk) ≡ request_of (graph_at tasks k) walk t
+  walk_above : (p t : ℕ) (walk : List ℕ) → ltb (task_at tasks k).priority p ≡ true
+      → sum_by (λ r. cond (is_above p 0 t (job_of tasks r)) r.need 0) (releases_of (graph_at tasks k) k walk) ≡ request_of (graph_at tasks k) walk t
   walk_above p t [] higher = refl
   walk_above p t (u ∷ vs) higher = from_above p t 0 u vs higher
 
@@ -214,12 +222,14 @@ module _ (version : ℕ) (tasks : List Task) (ok : IsTaskSet version tasks) (k :
   walk_below p t (u ∷ vs) lower = from_below p t 0 u vs lower
 
 module _ (version : ℕ) (tasks : List Task) (ok : IsTaskSet version tasks) (walks : ℕ → List ℕ) (are : AreWalks tasks walks) where
-  sums_due : AreConstrained tasks → (t : ℕ) → AreDueBy tasks walks t → (n : ℕ) → n ≤ length tasks → sum_by (λ r. cond (is_due 0 t (job_of tasks r)) r.need 0) (all_releases tasks walks n) ≡ efforts tasks walks n
+  sums_due : AreConstrained tasks → (t : ℕ) → AreDueBy tasks walks t → (n : ℕ) → n ≤ length tasks
+      → sum_by (λ r. cond (is_due 0 t (job_of tasks r)) r.need 0) (all_releases tasks walks n) ≡ efforts tasks walks n
   unfolding all_releases efforts
   sums_due constrained t due zero h = refl
   sums_due constrained t due (suc k) h =
       let f : Release → ℕ = λ r. cond (is_due 0 t (job_of tasks r)) r.need 0 in
-      omega (arith, sum_by-append f (all_releases tasks walks k) (releases_of (graph_at tasks k) k (walks k)), sums_due constrained t due k (omega arith), walk_due version tasks ok k h constrained t (walks k) (are k h) (due k h))
+      omega (arith, sum_by-append f (all_releases tasks walks k) (releases_of (graph_at tasks k) k (walks k)), sums_due constrained t due k (omega arith), walk_due
+          version tasks ok k h constrained t (walks k) (are k h) (due k h))
 
   -- by t the releases of walks that are due by t need all their work
   pub releases_due : AreConstrained tasks → (t : ℕ) → AreDueBy tasks walks t → needs (is_due 0 t) (jobs_of tasks (all_releases tasks walks (length tasks))) ≡ efforts tasks walks (length tasks)

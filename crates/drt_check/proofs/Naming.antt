@@ -81,7 +81,9 @@ pub least_named : (policy : Policy) (jobs : List Job) (miss : Miss) → IsLeastM
 least_named policy jobs miss is = (is.job, is.here, is.is)
 
 -- The named job hasn't finished by its deadline, and no miss is earlier.
-pub least_here : (policy : Policy) (jobs : List Job) (miss first : Miss) → NamesJob jobs miss → ((j : ℕ) → IsJob jobs miss.task miss.index j → IsFinishSoFar policy jobs miss.deadline j None) → IsLeastMiss policy jobs first → miss.deadline ≤ first.deadline → IsLeastMiss policy jobs miss
+pub least_here : (policy : Policy) (jobs : List Job) (miss first : Miss) → NamesJob jobs miss
+    → ((j : ℕ) → IsJob jobs miss.task miss.index j → IsFinishSoFar policy jobs miss.deadline j None) → IsLeastMiss policy jobs first → miss.deadline ≤ first.deadline
+    → IsLeastMiss policy jobs miss
 least_here policy jobs miss first named unfinished is l =
     let d : miss.deadline ≡ (job_at jobs named.0).deadline = ap (λ m. m.deadline) named.2 in
     let f : first.deadline ≡ (job_at jobs is.job).deadline = ap (λ m. m.deadline) is.is in
@@ -101,7 +103,8 @@ least_earliest policy jobs miss first is other =
     omega arith
 
 -- A job that has finished by its deadline doesn't miss.
-pub finished_not_least : (policy : Policy) (jobs : List Job) (miss : Miss) (n : ℕ) → ((j : ℕ) → IsJob jobs miss.task miss.index j → IsFinishSoFar policy jobs miss.deadline j (Some n)) → IsLeastMiss policy jobs miss → ⊥
+pub finished_not_least : (policy : Policy) (jobs : List Job) (miss : Miss) (n : ℕ)
+    → ((j : ℕ) → IsJob jobs miss.task miss.index j → IsFinishSoFar policy jobs miss.deadline j (Some n)) → IsLeastMiss policy jobs miss → ⊥
 finished_not_least policy jobs miss n finished is =
     let d : miss.deadline ≡ (job_at jobs is.job).deadline = ap (λ m. m.deadline) is.is in
     let f = finished is.job (named_job jobs miss (is.job, is.here, is.is)) in

@@ -25,11 +25,13 @@ first_due g constrained v (x ∷ vs) l is =
     rw span_cons (omega (arith, c, k.3))
 
 -- What a closed front says of an entry of it.
-entry_closed : (g : Digraph) (bound : ℕ) (front : List FrontEntry) → IsClosedFront bound g front → (i : ℕ) (e : FrontEntry) → i < length front → get_or front i e ≡ e → (k : ℕ) → k < out_degree g e.vertex → IsExtended bound g front e k
+entry_closed : (g : Digraph) (bound : ℕ) (front : List FrontEntry) → IsClosedFront bound g front → (i : ℕ) (e : FrontEntry) → i < length front → get_or front i e ≡ e
+    → (k : ℕ) → k < out_degree g e.vertex → IsExtended bound g front e k
 entry_closed g bound front closed i e l at = subst (λ x. (k : ℕ) → k < out_degree g x.vertex → IsExtended bound g front x k) at (closed i e l)
 
 -- An edge that leads on from a covered walk gives a covered walk, where it is due within the bound.
-extended : (g : Digraph) (bound : ℕ) (front : List FrontEntry) → IsClosedFront bound g front → (v o w x : ℕ) → IsEdge g v x → Any (Covers v o w) front → o + gap g v x + deadline g x ≤ bound → Any (Covers x (o + gap g v x) (w + wcet g x)) front
+extended : (g : Digraph) (bound : ℕ) (front : List FrontEntry) → IsClosedFront bound g front → (v o w x : ℕ) → IsEdge g v x → Any (Covers v o w) front
+    → o + gap g v x + deadline g x ≤ bound → Any (Covers x (o + gap g v x) (w + wcet g x)) front
 extended g bound front closed v o w x edge (i, e, l, at, (same, by, most)) near =
     let sep : gap g e.vertex x ≡ gap g v x = ap (λ u. gap g u x) same in
     let k = edge_of_sep g e.vertex x (gap g e.vertex x) (rw same edge) in
@@ -44,7 +46,8 @@ extended g bound front closed v o w x edge (i, e, l, at, (same, by, most)) near 
         (j, f, m, there, (vertex ∙ to, omega (arith, offset, sep, by), omega (arith, works, c, most)))
 
 -- From a covered walk to v on: the rest of a walk leads to an entry that covers the whole.
-covered_from : (g : Digraph) → IsSoundGraph g → IsConstrainedGraph g → (bound : ℕ) (front : List FrontEntry) → IsClosedFront bound g front → (v o w : ℕ) (vs : List ℕ) → IsPath g v vs → Any (Covers v o w) front → o + (span g v vs + deadline g (last_of v vs)) ≤ bound → Any (Covers (last_of v vs) (o + span g v vs) (w + work g vs)) front
+covered_from : (g : Digraph) → IsSoundGraph g → IsConstrainedGraph g → (bound : ℕ) (front : List FrontEntry) → IsClosedFront bound g front → (v o w : ℕ) (vs : List ℕ)
+    → IsPath g v vs → Any (Covers v o w) front → o + (span g v vs + deadline g (last_of v vs)) ≤ bound → Any (Covers (last_of v vs) (o + span g v vs) (w + work g vs)) front
 covered_from g sound constrained bound front closed v o w [] is (i, e, l, at, (same, by, most)) near =
     (i, e, l, at, (same, rw span_none (omega (arith, by)), rw work_none (omega (arith, most))))
 covered_from g sound constrained bound front closed v o w (x ∷ vs) is covered near =
@@ -57,7 +60,8 @@ covered_from g sound constrained bound front closed v o w (x ∷ vs) is covered 
     (i, e, l, at, (same, omega (arith, by, s), omega (arith, most, c)))
 
 -- Each walk that is due within the bound is covered.
-pub covered : (g : Digraph) → IsSoundGraph g → IsConstrainedGraph g → (bound : ℕ) (front : List FrontEntry) → HasOpenings bound g front → IsClosedFront bound g front → (u : ℕ) (vs : List ℕ) → u < vertex_count g → IsPath g u vs → span g u vs + deadline g (last_of u vs) ≤ bound → Any (Covers (last_of u vs) (span g u vs) (work g (u ∷ vs))) front
+pub covered : (g : Digraph) → IsSoundGraph g → IsConstrainedGraph g → (bound : ℕ) (front : List FrontEntry) → HasOpenings bound g front → IsClosedFront bound g front
+    → (u : ℕ) (vs : List ℕ) → u < vertex_count g → IsPath g u vs → span g u vs + deadline g (last_of u vs) ≤ bound → Any (Covers (last_of u vs) (span g u vs) (work g (u ∷ vs))) front
 covered g sound constrained bound front openings closed u vs inside is near =
     let d = first_due g constrained u vs inside is in
     let opening = openings u inside (omega (arith, d, near)) in
@@ -82,7 +86,8 @@ most_due g (x ∷ front) t n (suc k) e l at d m =
     omega (arith, h, r)
 
 -- So has a walk that is due by t.
-one_within : (g : Digraph) → IsSoundGraph g → IsConstrainedGraph g → (bound t : ℕ) (front : List FrontEntry) → HasOpenings bound g front → IsClosedFront bound g front → t ≤ bound → (walk : List ℕ) → IsWalk g walk → due_of g walk ≤ t → work g walk ≤ work_due g front t
+one_within : (g : Digraph) → IsSoundGraph g → IsConstrainedGraph g → (bound t : ℕ) (front : List FrontEntry) → HasOpenings bound g front → IsClosedFront bound g front
+    → t ≤ bound → (walk : List ℕ) → IsWalk g walk → due_of g walk ≤ t → work g walk ≤ work_due g front t
 one_within g sound constrained bound t front openings closed near [] is by = rw work_none (omega arith)
 one_within g sound constrained bound t front openings closed near (u ∷ vs) is by =
     let (i, e, l, at, (same, offset, works)) = covered g sound constrained bound front openings closed u vs is.0 is.1 (omega (arith, by, near)) in
@@ -90,12 +95,15 @@ one_within g sound constrained bound t front openings closed near (u ∷ vs) is 
     most_due g front t (work g (u ∷ vs)) i e l at (omega (arith, d, offset, by)) works
 
 -- Walks of the tasks that are due by t have together at most the works that are due by t.
-pub all_within : (tasks : List Task) → All IsSoundGraph (graphs_of tasks) → All IsConstrainedGraph (graphs_of tasks) → (bound t : ℕ) (fronts : List (List FrontEntry)) → length fronts ≡ length tasks → Each (HasOpenings bound) (graphs_of tasks) fronts → Each (IsClosedFront bound) (graphs_of tasks) fronts → t ≤ bound
+pub all_within : (tasks : List Task) → All IsSoundGraph (graphs_of tasks) → All IsConstrainedGraph (graphs_of tasks) → (bound t : ℕ) (fronts : List (List FrontEntry))
+    → length fronts ≡ length tasks → Each (HasOpenings bound) (graphs_of tasks) fronts → Each (IsClosedFront bound) (graphs_of tasks) fronts → t ≤ bound
     → (walks : ℕ → List ℕ) → AreWalks tasks walks → AreDueBy tasks walks t → efforts tasks walks (length tasks) ≤ works_due (graphs_of tasks) fronts t
 unfolding sum_due
 all_within [] sound constrained bound t fronts count openings closed near walks are by = rw efforts_none (omega arith)
 all_within (x ∷ tasks) sound constrained bound t [] count openings closed near walks are by = absurd (omega arith)
 all_within (x ∷ tasks) sound constrained bound t (f ∷ fronts) count openings closed near walks are by =
-    let first = one_within (digraph_of x) (sound 0 (digraph_of x) (omega arith)) (constrained 0 (digraph_of x) (omega arith)) bound t f openings.0 closed.0 near (walks 0) (are 0 (omega arith)) (by 0 (omega arith)) in
-    let others = all_within tasks (λ k d l. sound (suc k) d (omega arith)) (λ k d l. constrained (suc k) d (omega arith)) bound t fronts (omega arith) openings.1 closed.1 near (λ k. walks (suc k)) (λ k l. are (suc k) (omega arith)) (λ k l. by (suc k) (omega arith)) in
+    let first = one_within (digraph_of x) (sound 0 (digraph_of x) (omega arith)) (constrained 0 (digraph_of x) (omega arith)) bound t f openings.0 closed.0 near (walks 0)
+        (are 0 (omega arith)) (by 0 (omega arith)) in
+    let others = all_within tasks (λ k d l. sound (suc k) d (omega arith)) (λ k d l. constrained (suc k) d (omega arith)) bound t fronts (omega arith) openings.1 closed.1
+        near (λ k. walks (suc k)) (λ k l. are (suc k) (omega arith)) (λ k l. by (suc k) (omega arith)) in
     rw (efforts_cons x tasks walks (length tasks)) (omega (arith, first, others))

@@ -11,7 +11,8 @@ abbrev pub AreExtended : ℕ → Digraph → List FrontEntry → FrontEntry → 
 AreExtended bound g front e = (k : ℕ) → k < out_degree g e.vertex → IsExtended bound g front e k
 
 -- One more entry.
-pub closed_more : (bound : ℕ) (g : Digraph) (front : List FrontEntry) (i : ℕ) (e : FrontEntry) → i < length front → AreExtended bound g front (get_or front i e) → ((j : ℕ) (d : FrontEntry) → j < i → AreExtended bound g front (get_or front j d)) → (j : ℕ) (d : FrontEntry) → j < i + 1 → AreExtended bound g front (get_or front j d)
+pub closed_more : (bound : ℕ) (g : Digraph) (front : List FrontEntry) (i : ℕ) (e : FrontEntry) → i < length front → AreExtended bound g front (get_or front i e)
+    → ((j : ℕ) (d : FrontEntry) → j < i → AreExtended bound g front (get_or front j d)) → (j : ℕ) (d : FrontEntry) → j < i + 1 → AreExtended bound g front (get_or front j d)
 closed_more bound g front i e l here so_far j d m = go (cases_lt j i)
   where
     go : (j < i) ⊎ (i ≤ j) → AreExtended bound g front (get_or front j d)

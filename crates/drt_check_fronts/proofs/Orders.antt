@@ -91,7 +91,8 @@ pub none_before : (xs : List FrontEntry) (v o w p : ℕ) → IsPoint xs v o p �
 none_before xs v o w p point none (k, x, l, is, covers) = (let b = before_point xs v o w p point k x l is covers in omega arith)
 
 -- The last entry up to there covers the label, where it is of the vertex and has the work.
-pub last_covers : (xs : List FrontEntry) (v o w p : ℕ) (d : FrontEntry) → IsPoint xs v o p → p ≤ length xs → (p ≡ 0 → ⊥) → (get_or xs (p - 1) d).vertex ≡ v → w ≤ (get_or xs (p - 1) d).work → Any (Covers v o w) xs
+pub last_covers : (xs : List FrontEntry) (v o w p : ℕ) (d : FrontEntry) → IsPoint xs v o p → p ≤ length xs → (p ≡ 0 → ⊥) → (get_or xs (p - 1) d).vertex ≡ v
+    → w ≤ (get_or xs (p - 1) d).work → Any (Covers v o w) xs
 last_covers xs v o w p d point within some same enough =
     (p - 1, get_or xs (p - 1) d, l, get_or_default xs (p - 1) (get_or xs (p - 1) d) d l, (same, offset (up_true v o (get_or xs (p - 1) d) up), enough))
   where
@@ -110,7 +111,8 @@ last_covers xs v o w p d point within some same enough =
     offset (inr q) = q.1
 
 -- Where an entry covers the label, the last entry up to there is of the vertex and has the work.
-pub covers_last : (xs : List FrontEntry) → AllNeighbours IsNextEntry xs → (v o w p : ℕ) (d : FrontEntry) → IsPoint xs v o p → p ≤ length xs → Any (Covers v o w) xs → ((get_or xs (p - 1) d).vertex ≡ v) × (w ≤ (get_or xs (p - 1) d).work)
+pub covers_last : (xs : List FrontEntry) → AllNeighbours IsNextEntry xs → (v o w p : ℕ) (d : FrontEntry) → IsPoint xs v o p → p ≤ length xs → Any (Covers v o w) xs
+    → ((get_or xs (p - 1) d).vertex ≡ v) × (w ≤ (get_or xs (p - 1) d).work)
 covers_last xs sorted v o w p d point within (k, x, l, is, covers) = go (cases_lt k (p - 1))
   where
     b : k < p
@@ -135,7 +137,9 @@ covers_last xs sorted v o w p d point within (k, x, l, is, covers) = go (cases_l
         rw s (covers.0, covers.2)
 
 -- One more step between neighbours.
-pub next_more : (xs : List FrontEntry) (i : ℕ) (e : FrontEntry) → 1 ≤ i → i < length xs → ((k : ℕ) (d : FrontEntry) → k + 1 < i → IsNextEntry (get_or xs k d) (get_or xs (k + 1) d)) → IsNextEntry (get_or xs (i - 1) e) (get_or xs i e) → (k : ℕ) (d : FrontEntry) → k + 1 < i + 1 → IsNextEntry (get_or xs k d) (get_or xs (k + 1) d)
+pub next_more : (xs : List FrontEntry) (i : ℕ) (e : FrontEntry) → 1 ≤ i → i < length xs
+    → ((k : ℕ) (d : FrontEntry) → k + 1 < i → IsNextEntry (get_or xs k d) (get_or xs (k + 1) d)) → IsNextEntry (get_or xs (i - 1) e) (get_or xs i e)
+    → (k : ℕ) (d : FrontEntry) → k + 1 < i + 1 → IsNextEntry (get_or xs k d) (get_or xs (k + 1) d)
 next_more xs i e some l so_far here k d m = go (cases_lt (k + 1) i)
   where
     go : (k + 1 < i) ⊎ (i ≤ k + 1) → IsNextEntry (get_or xs k d) (get_or xs (k + 1) d)
@@ -145,5 +149,6 @@ next_more xs i e some l so_far here k d m = go (cases_lt (k + 1) i)
         let b : i ≡ k + 1 = omega arith in
         let first : get_or xs (i - 1) e ≡ get_or xs (i - 1) d = get_or_default xs (i - 1) e d (omega arith) in
         let second : get_or xs i e ≡ get_or xs i d = get_or_default xs i e d l in
-        let both : IsNextEntry (get_or xs (i - 1) d) (get_or xs i d) = subst (λ (y : FrontEntry). IsNextEntry y (get_or xs i d)) first (subst (λ (y : FrontEntry). IsNextEntry (get_or xs (i - 1) e) y) second here) in
+        let both : IsNextEntry (get_or xs (i - 1) d) (get_or xs i d) = subst (λ (y : FrontEntry). IsNextEntry y (get_or xs i d)) first
+            (subst (λ (y : FrontEntry). IsNextEntry (get_or xs (i - 1) e) y) second here) in
         subst (λ (n : ℕ). IsNextEntry (get_or xs n d) (get_or xs (k + 1) d)) a (subst (λ (n : ℕ). IsNextEntry (get_or xs (i - 1) d) (get_or xs n d)) b both)

@@ -35,13 +35,15 @@ work_starts P g (e ∷ front) each = go (eqb (due g e) 0) refl (work_starts P g 
     go false other (inr same) = inr (rw (no_test (due g e) other, same) (omega arith))
 
 -- And so for all fronts together.
-works_stay : (P : ℕ → Type 0) (graphs : List Digraph) (fronts : List (List FrontEntry)) (t : ℕ) → Each (λ g front. All (λ e. P (due g e)) front) graphs fronts → P (suc t) ⊎ (works_due graphs fronts (suc t) ≡ works_due graphs fronts t)
+works_stay : (P : ℕ → Type 0) (graphs : List Digraph) (fronts : List (List FrontEntry)) (t : ℕ) → Each (λ g front. All (λ e. P (due g e)) front) graphs fronts
+    → P (suc t) ⊎ (works_due graphs fronts (suc t) ≡ works_due graphs fronts t)
 unfolding sum_due
 works_stay P [] fronts t each = inr refl
 works_stay P (g ∷ graphs) [] t each = inr refl
 works_stay P (g ∷ graphs) (f ∷ fronts) t each = go (work_stays P g f t each.0) (works_stay P graphs fronts t each.1)
   where
-    go : P (suc t) ⊎ (work_due g f (suc t) ≡ work_due g f t) → P (suc t) ⊎ (works_due graphs fronts (suc t) ≡ works_due graphs fronts t) → P (suc t) ⊎ (work_due g f (suc t) + works_due graphs fronts (suc t) ≡ work_due g f t + works_due graphs fronts t)
+    go : P (suc t) ⊎ (work_due g f (suc t) ≡ work_due g f t) → P (suc t) ⊎ (works_due graphs fronts (suc t) ≡ works_due graphs fronts t)
+        → P (suc t) ⊎ (work_due g f (suc t) + works_due graphs fronts (suc t) ≡ work_due g f t + works_due graphs fronts t)
     go (inl p) others = inl p
     go (inr same) (inl p) = inl p
     go (inr same) (inr others) = inr (omega (arith, same, others))

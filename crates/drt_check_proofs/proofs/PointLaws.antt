@@ -98,7 +98,8 @@ pub queries_points : (tasks : List Task) (trees : List TreeClaim) (i : ℕ) (tre
 queries_points tasks trees i tree at proofs all =
     flat_lift (HasShape tasks trees) (queries_of tasks tree i) (points_of tasks trees) (query i) (queries_one tasks trees i tree at) proofs (recursion_from_All (HasShape tasks trees) proofs all)
 
-passing_map : (graphs : List Digraph) (trees : List TreeClaim) (g : Digraph) (v : ℕ) (ps : List (List ℕ × ℕ)) → AllByRecursion (HasPassingTime graphs trees g v) ps ↔ AllByRecursion (IsPoint graphs trees) (map (point g v) ps)
+passing_map : (graphs : List Digraph) (trees : List TreeClaim) (g : Digraph) (v : ℕ) (ps : List (List ℕ × ℕ))
+    → AllByRecursion (HasPassingTime graphs trees g v) ps ↔ AllByRecursion (IsPoint graphs trees) (map (point g v) ps)
 passing_map graphs trees g v [] = (λ all. tt, λ all. tt)
 passing_map graphs trees g v (p ∷ ps) =
     let rest = passing_map graphs trees g v ps in (
@@ -106,7 +107,8 @@ passing_map graphs trees g v (p ∷ ps) =
       λ all. (record { some = all.0.some; within = all.0.within; fits = all.0.fits }, rest.1 all.1),
     )
 
-passing_one : (tasks : List Task) (graphs : List Digraph) (trees : List TreeClaim) (proof : ProofClaim) → HasPassingTimes tasks graphs trees proof ↔ AllByRecursion (IsPoint graphs trees) (points_of tasks trees proof)
+passing_one : (tasks : List Task) (graphs : List Digraph) (trees : List TreeClaim) (proof : ProofClaim)
+    → HasPassingTimes tasks graphs trees proof ↔ AllByRecursion (IsPoint graphs trees) (points_of tasks trees proof)
 passing_one tasks graphs trees proof = go (slice_get tasks proof.task) refl
   where
     go : (o : Option Task) → slice_get tasks proof.task ≡ o → HasPassingTimes tasks graphs trees proof ↔ AllByRecursion (IsPoint graphs trees) (points_of tasks trees proof)

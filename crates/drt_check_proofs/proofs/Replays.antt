@@ -18,7 +18,8 @@ pub record Replayed (trees : List TreeClaim) (width : ℕ) (items : List Item) (
   pub depth : depth_after_all width items (Some (length stack)) ≡ Some (length last)
   pub each : (i : ℕ) (tree : TreeClaim) → slice_get trees i ≡ Some tree → after_all_at tree i items (Some (at_place i stack)) ≡ Some (at_place i last)
 
-pub replayed : (trees : List TreeClaim) (width : ℕ) (items : List Item) (stack last : List (List ℕ)) → AreWide width stack → after_all trees items (Some stack) ≡ Some last → Replayed trees width items stack last
+pub replayed : (trees : List TreeClaim) (width : ℕ) (items : List Item) (stack last : List (List ℕ)) → AreWide width stack
+    → after_all trees items (Some stack) ≡ Some last → Replayed trees width items stack last
 unfolding after_all depth_after_all after_all_at
 replayed trees width [] stack last wide e =
     let h : stack ≡ last = same_Some _ _ e in
@@ -83,7 +84,8 @@ shape_decides trees count width items e = (
       (r.depth, λ i tree l at. (let b = begins_at trees count i tree (omega arith) at (omega arith) in let h = rw b at (r.each i tree at) in rw h refl))
       ),
   λ both. (
-      let r = replays trees width items (opening_stack trees count) 0 (omega arith) wide both.0 (λ i tree l at. rw (begins_at trees count i tree (omega arith) at (omega arith)) (both.1 i tree l at)) in
+      let r = replays trees width items (opening_stack trees count) 0 (omega arith) wide both.0
+          (λ i tree l at. rw (begins_at trees count i tree (omega arith) at (omega arith)) (both.1 i tree l at)) in
       rw r.1 (ap (λ (s : List (List ℕ)). Some s) (nil_from_length r.0 r.2))
       ),
 )

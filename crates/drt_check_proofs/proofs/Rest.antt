@@ -36,7 +36,8 @@ unfolding passing_times
 times_first (Pass t) items = refl
 times_first (Split place) items = refl
 
-pub times_turned : {Y : Type 0} (f : ℕ → Y) (items : List Item) (i : ℕ) → i < length items → map f (passing_times (drop i items)) ≡ map f (passing_times (item_at items i ∷ [])) ++ map f (passing_times (drop (i + 1) items))
+pub times_turned : {Y : Type 0} (f : ℕ → Y) (items : List Item) (i : ℕ) → i < length items
+    → map f (passing_times (drop i items)) ≡ map f (passing_times (item_at items i ∷ [])) ++ map f (passing_times (drop (i + 1) items))
 times_turned f items i l =
     ap (λ xs. map f (passing_times xs)) (drop_more items i (Pass 0) l)
     ∙ (ap (map f) (times_first (item_at items i) (drop (i + 1) items)) ∙ map-append f (passing_times (item_at items i ∷ [])) (passing_times (drop (i + 1) items)))

@@ -40,7 +40,8 @@ module _ (graphs : List Digraph) (order : List ℕ) (place : ℕ) (l : place < l
     Dominated : Digraph → Type 0
     Dominated h = AllZip (NamesAbove states) (children_of h deadline s place (entry_at s.entries place)) numbers
 
-    pub split_is : 1 ≤ length numbers → AllZip (NamesAbove states) (children_of g deadline s place (entry_at s.entries place)) numbers → IsSplit (graphs_at graphs order) deadline states s place numbers
+    pub split_is : 1 ≤ length numbers → AllZip (NamesAbove states) (children_of g deadline s place (entry_at s.entries place)) numbers
+        → IsSplit (graphs_at graphs order) deadline states s place numbers
     unfolding Dominated
     split_is some each =
         let a : Dominated (graph_of graphs (get_or order place 0)) = subst Dominated is each in
@@ -54,7 +55,8 @@ module _ (graphs : List Digraph) (order : List ℕ) (place : ℕ) (l : place < l
     unfolding Dominated
     split_of split = let a : Dominated (graph_of graphs (get_or order place 0)) = subst (λ (o : Option Digraph). IsSomeAnd o Dominated) graph_there split.each in subst Dominated (sym is) a
 
-pub place_in : (graphs : List Digraph) (order : List ℕ) (deadline : ℕ) (states : List StateClaim) (s : StateClaim) (place : ℕ) (numbers : List ℕ) → IsSplit (graphs_at graphs order) deadline states s place numbers
+pub place_in : (graphs : List Digraph) (order : List ℕ) (deadline : ℕ) (states : List StateClaim) (s : StateClaim) (place : ℕ) (numbers : List ℕ)
+    → IsSplit (graphs_at graphs order) deadline states s place numbers
     → place < length order
 place_in graphs order deadline states s place numbers split = let m = long_as order (λ (k : ℕ). graph_of graphs k) in omega (arith, m, split.place_is)
 

@@ -102,7 +102,8 @@ module _ (g : Digraph) where
 
   pub stays_same : (bound offset done : ℕ) (rest : List ℕ) (asked later : ℕ → ℕ) → ((t : ℕ) → offset < t → later t ≡ asked t)
       → Stays bound offset done rest asked ↔ Stays bound offset done rest later
-  stays_same bound offset done rest asked later same = (λ s t l m. (let a = s t l m in let b = same t l in omega (arith, a, b)), λ s t l m. (let a = s t l m in let b = same t l in omega (arith, a, b)))
+  stays_same bound offset done rest asked later
+      same = (λ s t l m. (let a = s t l m in let b = same t l in omega (arith, a, b)), λ s t l m. (let a = s t l m in let b = same t l in omega (arith, a, b)))
 
   -- What is known of a comparison at a place of the other walk.
   pub record IsSettled (bound : ℕ) (other walk : List ℕ) (i offset done : ℕ) (c : Cursor) : Type 0 where

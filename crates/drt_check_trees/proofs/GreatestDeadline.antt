@@ -14,7 +14,8 @@ pub latest_more : (vertices : List Vertex) (i : ℕ) (d : Vertex) → i < length
 unfolding latest_deadline
 latest_more vertices i d l = ap latest_deadline (drop_more vertices i d l)
 
-pub greatest_more : (tasks : List Task) (i : ℕ) (d : Task) → i < length tasks → greatest_deadline (drop i tasks) ≡ max (latest_deadline (get_or tasks i d).vertices) (greatest_deadline (drop (i + 1) tasks))
+pub greatest_more : (tasks : List Task) (i : ℕ) (d : Task) → i < length tasks → greatest_deadline (drop i tasks) ≡ max (latest_deadline (get_or tasks i d).vertices)
+    (greatest_deadline (drop (i + 1) tasks))
 unfolding greatest_deadline
 greatest_more tasks i d l = ap greatest_deadline (drop_more tasks i d l)
 

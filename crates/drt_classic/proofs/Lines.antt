@@ -223,7 +223,8 @@ faultless_line s line words text still none =
     let code = classic_kind_fault (classic_kind (first_field words)) s words in
     ap (λ t. cond (not t) (Some 32) (cond s.ended (Some 46) code)) text ∙ ap (λ e. cond e (Some 46) code) still ∙ none
 
-leaves : (n : ℕ) (s : State) (o : Option ℕ) (m l : Line) → o ≡ None → m ≡ l → ◌≡◌ {A = Result (Option State) ClassicFault} (unless n o (Some (after_classic_line n s m))) (Ok (Some (after_classic_line n s l)))
+leaves : (n : ℕ) (s : State) (o : Option ℕ) (m l : Line) → o ≡ None → m ≡ l → ◌≡◌ {A = Result (Option State) ClassicFault} (unless n o (Some (after_classic_line n s m)))
+    (Ok (Some (after_classic_line n s l)))
 unfolding unless
 leaves n s o m l none is = rw (none, is) refl
 

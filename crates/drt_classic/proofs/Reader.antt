@@ -10,7 +10,8 @@ use Rattle.drt_classic.specs.declared.fault.ClassicError.TheVariants as errors
 use Rattle.drt_classic.specs.ClassicFaults.{classic_step, classic_steps, has_no_frame, first_without_frame}
 use Rattle.drt_classic.specs.Gives.{FailsClassic}
 
-pub line_read : (n : ℕ) (above below : Option State) (line rest others : List ℕ) (total : Result (ℕ × Option State) ClassicFault) → lines rest ≡ line ∷ lines others → classic_step n above line ≡ Ok below
+pub line_read : (n : ℕ) (above below : Option State) (line rest others : List ℕ) (total : Result (ℕ × Option State) ClassicFault) → lines rest ≡ line ∷ lines others
+    → classic_step n above line ≡ Ok below
     → classic_steps n above (lines rest) ≡ total → classic_steps (n + 1) below (lines others) ≡ total
 unfolding classic_steps
 line_read n above below line rest others total cut ok so_far =

@@ -29,7 +29,8 @@ module _ (r : Rules) (laws : AreLawful r) (left : Option (List ℕ)) (R W : Type
   told bytes (unmade.Refused f) o is cause e =
       subst (λ (x : Outcome). IsRun r left R W old new x) (sym e) (stopped r laws left R W old new (Refused f) (record { bytes = bytes; is = is; holds = cause }) (λ w. absurd (cc)))
 
-  pub finished : (bytes : List ℕ) (made : Result Report Unmade) (o : Outcome) → HasEnded made old new W o → IsInput r.input left bytes → IfOk made (r.makes bytes) → IfErr made (IsUnmadeCause r.refuses bytes)
+  pub finished : (bytes : List ℕ) (made : Result Report Unmade) (o : Outcome) → HasEnded made old new W o → IsInput r.input left bytes → IfOk made (r.makes bytes)
+      → IfErr made (IsUnmadeCause r.refuses bytes)
       → IsRun r left R W old new o
   finished bytes (Ok m) o h is ok err = wrote_or_failed bytes m o is ok h
   finished bytes (Err e) o h is ok err = told bytes e o is err h

@@ -59,7 +59,8 @@ pub fn conduct<S: Source, K: Sink, G: Gate, R: Threads + Wait + Sync>(
     sink: &mut K,
     gate: &G,
 ) -> Outcome
-    ensures run { IsRun (margin_rules command.now.fixed command.now.task command.now.vertex command.now.effort.budget) (S.left source.old) (Rose (S.faults source.old) (S.faults source.new)) (Rose (K.faults sink.old) (K.faults sink.new)) (K.held sink.old) (K.held sink.new) result }
+    ensures run { IsRun (margin_rules command.now.fixed command.now.task command.now.vertex command.now.effort.budget) (S.left source.old)
+        (Rose (S.faults source.old) (S.faults source.new)) (Rose (K.faults sink.old) (K.faults sink.new)) (K.held sink.old) (K.held sink.new) result }
     ensures unwritten { 4 ≤ result.status → result.status ≢ 7 → sink.new ≡ sink.old }
     ensures unread { (margin_rules command.now.fixed command.now.task command.now.vertex command.now.effort.budget).input ≡ Input.Nothing → source.new ≡ source.old }
 {

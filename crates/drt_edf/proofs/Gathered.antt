@@ -58,7 +58,8 @@ walks_due (g ∷ graphs) [] t walks are = absurd are
 walks_due (g ∷ graphs) (f ∷ fronts) t [] are = absurd are
 walks_due (g ∷ graphs) (f ∷ fronts) t (w ∷ walks) are = (due_walk g t w are.0.walk_is are.0.due, walks_due graphs fronts t walks are.1)
 
-pub walks_work : (graphs : List Digraph) (fronts : List (List FrontEntry)) (t : ℕ) (walks : List (List ℕ)) → AreDemandWalks graphs fronts t walks → efforts_together graphs walks ≡ demands graphs fronts t
+pub walks_work : (graphs : List Digraph) (fronts : List (List FrontEntry)) (t : ℕ) (walks : List (List ℕ)) → AreDemandWalks graphs fronts t walks
+    → efforts_together graphs walks ≡ demands graphs fronts t
 unfolding efforts_together sum_due
 walks_work [] fronts t walks are = refl
 walks_work (g ∷ graphs) [] t walks are = absurd are

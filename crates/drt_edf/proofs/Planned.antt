@@ -81,7 +81,8 @@ planned_far tasks proofs given plan = (
 )
 
 -- A plan with a horizon: the utilisation of the tasks is below one, with this horizon.
-pub planned_below : (tasks : List Task) (proofs : List RatioProof) → AreGiven (graphs_of tasks) proofs → (bound : ℕ) → IsHorizonPlan (graphs_of tasks) proofs (Ok (Under bound)) → HasHorizon tasks bound
+pub planned_below : (tasks : List Task) (proofs : List RatioProof) → AreGiven (graphs_of tasks) proofs → (bound : ℕ)
+    → IsHorizonPlan (graphs_of tasks) proofs (Ok (Under bound)) → HasHorizon tasks bound
 planned_below tasks proofs given bound plan = record {
   rates = rates tasks proofs given plan.0 plan.1;
   fine = plan.2.0;

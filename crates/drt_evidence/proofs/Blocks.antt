@@ -252,7 +252,8 @@ each_stop {X} {T} {D} {n} {bytes} {mid} {xs} {e} count lt some some_is r i = rec
     }
 
 -- The line of a count, and so many blocks below it.
-count_parts : {X : Type 0} (word : List ℕ) (T : X → List ℕ) (D : X → Type 0) (xs : List X) → AreItemsCounted D xs → IsNumber (length xs) × (count_and_blocks word T xs ≡ written_line (count_line word (length xs)) ++ in_turn T xs)
+count_parts : {X : Type 0} (word : List ℕ) (T : X → List ℕ) (D : X → Type 0) (xs : List X) → AreItemsCounted D xs
+    → IsNumber (length xs) × (count_and_blocks word T xs ≡ written_line (count_line word (length xs)) ++ in_turn T xs)
 count_parts word T D xs is = (is.1, refl)
 
 pub count_stop : {X : Type 0} {bytes : List ℕ} {e : Stop} (T : X → List ℕ) (D : X → Type 0) (word : List ℕ) → (x : X) → D x
@@ -272,7 +273,8 @@ counted_stop {X} {n} T D word r i =
     stop (λ (xs : List X). xs) (λ xs. []) (λ xs is. ((recursion_from_All D xs is.0.0, is.1), sym (append-nil (in_turn T xs))))
     (λ xs is. (xs, ((All-from_recursion D xs is.0, subst IsNumber (sym is.1) r.is), is.1), refl)) (counted_at T D word r) i
 
-pub counted_read : {X : Type 0} {n : ℕ} {bytes mid rest : List ℕ} {xs : List X} (T : X → List ℕ) (D : X → Type 0) (word : List ℕ) → ReadsBlock (λ k. written_line (count_line word k)) IsNumber bytes n mid
+pub counted_read : {X : Type 0} {n : ℕ} {bytes mid rest : List ℕ} {xs : List X} (T : X → List ℕ) (D : X → Type 0) (word : List ℕ)
+    → ReadsBlock (λ k. written_line (count_line word k)) IsNumber bytes n mid
     → ReadsBlock (in_turn T) (AreSoMany n D) mid xs rest → ReadsBlock (count_and_blocks word T) (AreItemsCounted D) bytes xs rest
 counted_read {X} {n} {bytes} {mid} {rest} {xs} T D word r q =
     done (next (λ (ys : List X). ys) (λ ys. []) (λ ys is. ((recursion_from_All D ys is.0.0, is.1), sym (append-nil (in_turn T ys)))) (counted_at T D word r) q)

@@ -118,7 +118,8 @@ negative_other digits not (negsuc k) range e =
     not (suc k) (range_below k range) tail
 
 -- A field without a minus is none below 0.
-pub positive_is : (field : List ℕ) (n : ℕ) → ((rest : List ℕ) → ¬ (field ≡ (45 ∷ []) ++ rest)) → IsForm decimal (λ y. y ≤ 10000000000000000) field n → IsForm signed_decimal IsInRangePotential field (pos n)
+pub positive_is : (field : List ℕ) (n : ℕ) → ((rest : List ℕ) → ¬ (field ≡ (45 ∷ []) ++ rest)) → IsForm decimal (λ y. y ≤ 10000000000000000) field n
+    → IsForm signed_decimal IsInRangePotential field (pos n)
 positive_is field n other is = record {
   in_range = in_range_above n is.in_range;
   is = is.is;

@@ -384,14 +384,16 @@ named_of (FixedStates t q) = no_job
 named_of (FixedNo r m) = (r, m)
 named_of Undecided = no_job
 
-abbrev pub edf_yes_parts : Two (λ e. written (body_lines e)) (IsOfKind kinds.EdfYes) (λ rs. written (ratio_block rs)) (AreItemsCounted IsInRangeRatio) (λ fs. written (front_block fs)) (AreItemsCounted IsInRangeFront)
+abbrev pub edf_yes_parts : Two (λ e. written (body_lines e)) (IsOfKind kinds.EdfYes) (λ rs. written (ratio_block rs)) (AreItemsCounted IsInRangeRatio)
+    (λ fs. written (front_block fs)) (AreItemsCounted IsInRangeFront)
 edf_yes_parts = record {
   first = ratios_of;
   second = fronts_of;
   make = λ r f. EdfYes r f;
   first_is = λ e is. only_edf_yes (λ x. IsEvidenceInRange x → AreItemsCounted IsInRangeRatio (ratios_of x)) (λ r f i. i.0) e is.1 is.0;
   second_is = λ e is. only_edf_yes (λ x. IsEvidenceInRange x → AreItemsCounted IsInRangeFront (fronts_of x)) (λ r f i. i.1) e is.1 is.0;
-  block_is = λ e is. only_edf_yes (λ x. written (body_lines x) ≡ written (ratio_block (ratios_of x)) ++ written (front_block (fronts_of x))) (λ r f. written_both (ratio_block r) (front_block f)) e is.1;
+  block_is = λ e is. only_edf_yes (λ x. written (body_lines x) ≡ written (ratio_block (ratios_of x)) ++ written (front_block (fronts_of x)))
+      (λ r f. written_both (ratio_block r) (front_block f)) e is.1;
   made = λ e is. only_edf_yes (λ x. x ≡ EdfYes (ratios_of x) (fronts_of x)) (λ r f. refl) e is.1;
   make_is = λ r f i j. ((i, j), refl);
   make_first = λ r f i j. refl;
@@ -400,14 +402,16 @@ edf_yes_parts = record {
   other_is = (All-nil IsInRangeFront, lit≤ tt);
 }
 
-abbrev pub fixed_yes_parts : Two (λ e. written (body_lines e)) (IsOfKind kinds.FixedYes) (λ ts. written (tree_block ts)) (AreItemsCounted IsInRangeTree) (λ ps. written (proof_block ps)) (AreItemsCounted IsInRangeProof)
+abbrev pub fixed_yes_parts : Two (λ e. written (body_lines e)) (IsOfKind kinds.FixedYes) (λ ts. written (tree_block ts)) (AreItemsCounted IsInRangeTree)
+    (λ ps. written (proof_block ps)) (AreItemsCounted IsInRangeProof)
 fixed_yes_parts = record {
   first = trees_of;
   second = proofs_of;
   make = λ t q. FixedYes t q;
   first_is = λ e is. only_fixed_yes (λ x. IsEvidenceInRange x → AreItemsCounted IsInRangeTree (trees_of x)) (λ t q i. i.0) e is.1 is.0;
   second_is = λ e is. only_fixed_yes (λ x. IsEvidenceInRange x → AreItemsCounted IsInRangeProof (proofs_of x)) (λ t q i. i.1) e is.1 is.0;
-  block_is = λ e is. only_fixed_yes (λ x. written (body_lines x) ≡ written (tree_block (trees_of x)) ++ written (proof_block (proofs_of x))) (λ t q. written_both (tree_block t) (proof_block q)) e is.1;
+  block_is = λ e is. only_fixed_yes (λ x. written (body_lines x) ≡ written (tree_block (trees_of x)) ++ written (proof_block (proofs_of x)))
+      (λ t q. written_both (tree_block t) (proof_block q)) e is.1;
   made = λ e is. only_fixed_yes (λ x. x ≡ FixedYes (trees_of x) (proofs_of x)) (λ t q. refl) e is.1;
   make_is = λ t q i j. ((i, j), refl);
   make_first = λ t q i j. refl;
@@ -495,38 +499,46 @@ kind_parts e is = (
 
 some_of : (k : KindOfEvidence) → IsAny k → (e : Evidence) × IsEvidenceInRange e × (kind_of e ≡ k)
 some_of kinds.EdfYes is = (EdfYes [] [], ((All-nil IsInRangeRatio, lit≤ tt), (All-nil IsInRangeFront, lit≤ tt)), refl)
-some_of kinds.EdfNo is = (EdfNo [] (record { task = 0; index = 0; deadline = 0 }), record { each = All-nil IsInRangeRelease; counted = lit≤ tt; named = record { task = lit≤ tt; index = lit≤ tt; deadline = lit≤ tt } }, refl)
+some_of kinds.EdfNo is = (EdfNo [] (record { task = 0; index = 0; deadline = 0 }), record
+    { each = All-nil IsInRangeRelease; counted = lit≤ tt; named = record { task = lit≤ tt; index = lit≤ tt; deadline = lit≤ tt } }, refl)
 some_of kinds.UtilisationOne is = (UtilisationOne [], (All-nil IsInRangeRatio, lit≤ tt), refl)
 some_of kinds.FixedYes is = (FixedYes [] [], ((All-nil IsInRangeTree, lit≤ tt), (All-nil IsInRangeProof, lit≤ tt)), refl)
 some_of kinds.FixedStates is = (FixedStates [] [], ((All-nil IsInRangeTail, lit≤ tt), (All-nil IsInRangeSearch, lit≤ tt)), refl)
-some_of kinds.FixedNo is = (FixedNo [] (record { task = 0; index = 0; deadline = 0 }), record { each = All-nil IsInRangeRelease; counted = lit≤ tt; named = record { task = lit≤ tt; index = lit≤ tt; deadline = lit≤ tt } }, refl)
+some_of kinds.FixedNo
+    is = (FixedNo [] (record { task = 0; index = 0; deadline = 0 }), record
+    { each = All-nil IsInRangeRelease; counted = lit≤ tt; named = record { task = lit≤ tt; index = lit≤ tt; deadline = lit≤ tt } }, refl)
 some_of kinds.Undecided is = (Undecided, tt, refl)
 
 pub kind_stop : {bytes : List ℕ} {e : Stop} → IsStop (λ y. written_line (kind_line y)) IsAny bytes e → IsStop (λ x. written (evidence_lines x)) IsEvidenceInRange bytes e
 kind_stop {bytes} i = stop kind_of below_kind kind_parts some_of (start (λ x. written (evidence_lines x)) IsEvidenceInRange bytes) i
 
-kind_at : {bytes mid : List ℕ} {k : KindOfEvidence} → ReadsBlock (λ y. written_line (kind_line y)) IsAny bytes k mid → At (λ x. written (evidence_lines x)) IsEvidenceInRange (λ x. IsEvidenceInRange x × (kind_of x ≡ k)) below_kind bytes mid
+kind_at : {bytes mid : List ℕ} {k : KindOfEvidence} → ReadsBlock (λ y. written_line (kind_line y)) IsAny bytes k mid
+    → At (λ x. written (evidence_lines x)) IsEvidenceInRange (λ x. IsEvidenceInRange x × (kind_of x ≡ k)) below_kind bytes mid
 kind_at {bytes} r = next kind_of below_kind kind_parts (start (λ x. written (evidence_lines x)) IsEvidenceInRange bytes) r
 
 pub body_stop : {bytes mid : List ℕ} {k : KindOfEvidence} {e : Stop} → ReadsBlock (λ y. written_line (kind_line y)) IsAny bytes k mid → IsStop (λ x. written (body_lines x)) (IsOfKind k) mid e
     → IsStop (λ x. written (evidence_lines x)) IsEvidenceInRange bytes e
 body_stop r i = stop (λ (x : Evidence). x) (λ x. close_block tt) (λ x is. (is, refl)) (λ v is. (v, is, refl)) (kind_at r) i
 
-body_at : {bytes mid rest : List ℕ} {k : KindOfEvidence} {v : Evidence} → ReadsBlock (λ y. written_line (kind_line y)) IsAny bytes k mid → ReadsBlock (λ x. written (body_lines x)) (IsOfKind k) mid v rest
+body_at : {bytes mid rest : List ℕ} {k : KindOfEvidence} {v : Evidence} → ReadsBlock (λ y. written_line (kind_line y)) IsAny bytes k mid
+    → ReadsBlock (λ x. written (body_lines x)) (IsOfKind k) mid v rest
     → At (λ x. written (evidence_lines x)) IsEvidenceInRange (λ x. (IsEvidenceInRange x × (kind_of x ≡ k)) × (x ≡ v)) (λ x. close_block tt) bytes rest
 body_at r q = next (λ (x : Evidence). x) (λ x. close_block tt) (λ x is. (is, refl)) (kind_at r) q
 
-pub last_stop : {bytes mid rest : List ℕ} {k : KindOfEvidence} {v : Evidence} {e : Stop} → ReadsBlock (λ y. written_line (kind_line y)) IsAny bytes k mid → ReadsBlock (λ x. written (body_lines x)) (IsOfKind k) mid v rest
+pub last_stop : {bytes mid rest : List ℕ} {k : KindOfEvidence} {v : Evidence} {e : Stop} → ReadsBlock (λ y. written_line (kind_line y)) IsAny bytes k mid
+    → ReadsBlock (λ x. written (body_lines x)) (IsOfKind k) mid v rest
     → IsStop close_block IsAny rest e → IsStop (λ x. written (evidence_lines x)) IsEvidenceInRange bytes e
 last_stop {v = v} r q i = stop (λ (x : Evidence). tt) (λ x. []) (λ x is. (tt, sym (append-nil (close_block tt)))) (λ u is. (v, (q.is, refl), refl)) (body_at r q) i
 
-pub evidence_read : {bytes mid rest end : List ℕ} {k : KindOfEvidence} {v : Evidence} {u : Unit {0}} → ReadsBlock (λ y. written_line (kind_line y)) IsAny bytes k mid → ReadsBlock (λ x. written (body_lines x)) (IsOfKind k) mid v rest
+pub evidence_read : {bytes mid rest end : List ℕ} {k : KindOfEvidence} {v : Evidence} {u : Unit {0}} → ReadsBlock (λ y. written_line (kind_line y)) IsAny bytes k mid
+    → ReadsBlock (λ x. written (body_lines x)) (IsOfKind k) mid v rest
     → ReadsBlock close_block IsAny rest u end → ReadsBlock (λ x. written (evidence_lines x)) IsEvidenceInRange bytes v end
 evidence_read {v = v} r q l =
     done (next (λ (x : Evidence). tt) (λ x. []) (λ x is. (tt, sym (append-nil (close_block tt)))) (body_at r q) l) v ((q.is, refl), refl) refl (λ y is. is.0.1)
 
 -- The kind that was read.
-pub kind_read : {bytes rest : List ℕ} {v : Evidence} {k l : KindOfEvidence} → l ≡ k → ReadsBlock (λ x. written (body_lines x)) (IsOfKind k) bytes v rest → ReadsBlock (λ x. written (body_lines x)) (IsOfKind l) bytes v rest
+pub kind_read : {bytes rest : List ℕ} {v : Evidence} {k l : KindOfEvidence} → l ≡ k → ReadsBlock (λ x. written (body_lines x)) (IsOfKind k) bytes v rest
+    → ReadsBlock (λ x. written (body_lines x)) (IsOfKind l) bytes v rest
 kind_read {bytes} {rest} {v} same r = subst (λ j. ReadsBlock (λ x. written (body_lines x)) (IsOfKind j) bytes v rest) (sym same) r
 
 pub kind_stopped : {bytes : List ℕ} {e : Stop} {k l : KindOfEvidence} → l ≡ k → IsStop (λ x. written (body_lines x)) (IsOfKind k) bytes e → IsStop (λ x. written (body_lines x)) (IsOfKind l) bytes e

@@ -19,7 +19,8 @@ line_again begun (b ∷ line) rest none = past_byte begun (line ++ 10 ∷ rest) 
 -- A field goes on over bytes that aren't blanks.
 pub field_again : (begun field rest : List ℕ) → AllByRecursion (λ b. is_blank b ≡ false) field → fields_after begun (field ++ rest) ≡ fields_after (begun ++ field) rest
 field_again begun [] rest none = ap (λ run. fields_after run rest) (sym (append-nil begun))
-field_again begun (b ∷ field) rest none = at_other begun (field ++ rest) b none.0 ∙ field_again (begun ++ b ∷ []) field rest none.1 ∙ ap (λ run. fields_after run rest) (append_assoc begun (b ∷ []) field)
+field_again begun (b ∷ field) rest none = at_other begun (field ++ rest) b none.0 ∙ field_again (begun ++ b ∷ []) field rest none.1
+    ∙ ap (λ run. fields_after run rest) (append_assoc begun (b ∷ []) field)
 
 space : is_blank 32 ≡ true
 unfolding is_blank

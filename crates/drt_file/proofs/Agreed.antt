@@ -183,7 +183,8 @@ unfolding fits_below fits kind
 end_fits version n above line s (u, is, (v, (d, at, whole))) e = (ap (λ o. fits_below o end_line) is ∙ in_at is_whole u d at whole, tt)
 
 -- Lines of each kind, before others.
-vertices_agree : (version : ℕ) (vs : List Vertex) (ws : List (List (List ℕ))) → AllByRecursion IsVertex vs → Agrees (Below (In version Vertices)) ws → Agrees (Below (In version Vertices)) (map vertex_line vs ++ ws)
+vertices_agree : (version : ℕ) (vs : List Vertex) (ws : List (List (List ℕ))) → AllByRecursion IsVertex vs → Agrees (Below (In version Vertices)) ws
+    → Agrees (Below (In version Vertices)) (map vertex_line vs ++ ws)
 vertices_agree version [] ws are rest = rest
 vertices_agree version (x ∷ vs) ws are rest =
     agrees_weaker (Below (In version Vertices)) (Below (In version Ready)) (vertex_line x ∷ (map vertex_line vs ++ ws)) (λ o (s, is, (v, (d, at, (p, no_es, has)))). (s, is, (v, (d, at, (p, no_es)))))
@@ -201,16 +202,20 @@ body_agrees version [] es ws has are among rest = absurd (omega (arith, has))
 body_agrees version (x ∷ vs) es ws has are among rest =
     agrees_next (Below (In version Ready)) (In version Vertices) (vertex_line x) (map vertex_line vs ++ (map (edge_line (x ∷ vs)) es ++ ws)) (vertex_fits version x are.0)
     (vertices_agree version vs (map (edge_line (x ∷ vs)) es ++ ws) are.1
-    (agrees_weaker (Below (In version Vertices)) (Below (In version Whole)) (map (edge_line (x ∷ vs)) es ++ ws) (λ o (s, is, (v, (d, at, (p, no_es, some)))). (s, is, (v, (d, at, is_vertices d p some))))
+    (agrees_weaker (Below (In version Vertices)) (Below (In version Whole)) (map (edge_line (x ∷ vs)) es ++ ws)
+        (λ o (s, is, (v, (d, at, (p, no_es, some)))). (s, is, (v, (d, at, is_vertices d p some))))
     (edges_agree version (x ∷ vs) es ws among rest)))
 
-task_agrees : (version : ℕ) (t : Task) (ws : List (List (List ℕ))) → IsVersion version → IsTask version t → Agrees (Below (In version Whole)) ws → Agrees (Below (Open version)) (task_lines version t ++ ws)
+task_agrees : (version : ℕ) (t : Task) (ws : List (List (List ℕ))) → IsVersion version → IsTask version t → Agrees (Below (In version Whole)) ws
+    → Agrees (Below (Open version)) (task_lines version t ++ ws)
 unfolding task_lines lines_of_body priority_lines
 task_agrees version t ws known is rest =
-    let body = body_agrees version t.vertices t.edges ws is.has_vertex (recursion_from_All IsVertex t.vertices is.vertices) (recursion_from_All (IsEdgeAmong (length t.vertices)) t.edges is.edges) rest in
+    let body = body_agrees version t.vertices t.edges ws is.has_vertex (recursion_from_All IsVertex t.vertices is.vertices)
+        (recursion_from_All (IsEdgeAmong (length t.vertices)) t.edges is.edges) rest in
     let own = map vertex_line t.vertices ++ (map (edge_line t.vertices) t.edges ++ ws) in
     subst (λ l. Agrees (Below (Open version)) (task_line t ∷ l)) (cut (priority_lines version t) (map vertex_line t.vertices) (map (edge_line t.vertices) t.edges) ws)
-    (agrees_next (Below (Open version)) (λ s. In version Named s × ((version ≡ 1) → In version Ready s)) (task_line t) (priority_lines version t ++ own) (task_fits version t known) (below own known body))
+    (agrees_next (Below (Open version)) (λ s. In version Named s × ((version ≡ 1) → In version Ready s)) (task_line t) (priority_lines version t ++ own)
+        (task_fits version t known) (below own known body))
   where
     cut : (p a b c : List (List (List ℕ))) → p ++ (a ++ (b ++ c)) ≡ (p ++ (a ++ b)) ++ c
     cut p a b c = ap (λ l. p ++ l) (sym (append_assoc a b c)) ∙ sym (append_assoc p (a ++ b) c)
@@ -245,7 +250,8 @@ set_agrees set is =
     agrees_next (λ o. o ≡ None) (Open v) (version_line v) (flat_map (task_lines v) set.tasks ++ end_line ∷ []) (head_fits v is.known)
     (some_tasks set.tasks is.has_task (recursion_from_All (IsTask v) set.tasks is.each) tail)
   where
-    some_tasks : (ts : List Task) → 1 ≤ length ts → AllByRecursion (IsTask set.version) ts → Agrees (Below (In set.version Whole)) (end_line ∷ []) → Agrees (Below (Open set.version)) (flat_map (task_lines set.version) ts ++ end_line ∷ [])
+    some_tasks : (ts : List Task) → 1 ≤ length ts → AllByRecursion (IsTask set.version) ts → Agrees (Below (In set.version Whole)) (end_line ∷ [])
+        → Agrees (Below (Open set.version)) (flat_map (task_lines set.version) ts ++ end_line ∷ [])
     some_tasks [] has are rest = absurd (omega (arith, has))
     some_tasks (t ∷ ts) has are rest = tasks_agree set.version t ts (end_line ∷ []) is.known are rest
 

@@ -34,7 +34,8 @@ use Rattle.drt_file.proofs.Fresh.{fresh}
 abbrev pub Completes : ℕ → Option State → Type 0
 Completes n above = (more : List (List ℕ)) × AllByRecursion HasNoFeed more × ((m : ℕ) × (t : State) × (strict_steps n above more ≡ Some (m, Some t)) × (t.ended ≡ true))
 
-complete_next : (n : ℕ) (above : Option State) (words : List (List ℕ)) (t : State) → AllByRecursion IsField words → strict_step n above (join_with_byte 32 words) ≡ Some t → Completes (n + 1) (Some t) → Completes n above
+complete_next : (n : ℕ) (above : Option State) (words : List (List ℕ)) (t : State) → AllByRecursion IsField words → strict_step n above (join_with_byte 32 words) ≡ Some t
+    → Completes (n + 1) (Some t) → Completes n above
 complete_next n above words t fielded step (more, none, (m, u, taken, ended)) =
     (join_with_byte 32 words ∷ more, (joined_no_feed words fielded, none), (m, u, taken_first n above (join_with_byte 32 words) more t step ∙ taken, ended))
 
@@ -93,7 +94,8 @@ complete_vertex n s d at still priority no_vs no_es =
     complete_next n (Some s) words t fielded (accepts n s words kinds.Vertex fielded text still refl none fit)
     (complete_end (n + 1) t (at_draft is_whole t e (ap (option_map (with_vertex v)) at) whole) still)
 
-complete_priority : (n : ℕ) (s : State) (d : Draft) → s.current ≡ Some d → s.ended ≡ false → s.version ≡ 2 → d.priority ≡ None → d.vertices ≡ [] → d.edges ≡ [] → length s.closed ≤ 32 → Completes n (Some s)
+complete_priority : (n : ℕ) (s : State) (d : Draft) → s.current ≡ Some d → s.ended ≡ false → s.version ≡ 2 → d.priority ≡ None → d.vertices ≡ [] → d.edges ≡ []
+    → length s.closed ≤ 32 → Completes n (Some s)
 unfolding kind kind_fault fits after_kind on_current with_priority takes_priority has_priority
 complete_priority n s d at still two no_number no_vs no_es few =
     let free = fresh 32 s.closed few in

@@ -74,7 +74,8 @@ unfolding first_lines
 first_before n m [] le = ([], refl)
 first_before n m (b ∷ bs) le = go (λ k l h. first_before k l bs h) (n == 0) refl (m == 0) refl (b == 10) refl
   where
-    go : ((k l : ℕ) → k ≤ l → (rest : List ℕ) × (first_lines k bs ++ rest ≡ first_lines l bs)) → (z : Bool) → (n == 0) ≡ z → (y : Bool) → (m == 0) ≡ y → (f : Bool) → (b == 10) ≡ f → (rest : List ℕ) × (first_lines n (b ∷ bs) ++ rest ≡ first_lines m (b ∷ bs))
+    go : ((k l : ℕ) → k ≤ l → (rest : List ℕ) × (first_lines k bs ++ rest ≡ first_lines l bs)) → (z : Bool) → (n == 0) ≡ z → (y : Bool) → (m == 0) ≡ y → (f : Bool)
+        → (b == 10) ≡ f → (rest : List ℕ) × (first_lines n (b ∷ bs) ++ rest ≡ first_lines m (b ∷ bs))
     go on true isz y isy f isf = (first_lines m (b ∷ bs), rw isz refl)
     go on false isz true isy f isf = absurd (grind (arith, isz, isy, le))
     go on false isz false isy true isf =
@@ -113,7 +114,8 @@ either_front (x ∷ xs) (y ∷ ys) us ws nx ny e = go (either_front xs ys us ws 
     same = line_same x y (fed xs ++ us) (fed ys ++ ws) nx.0 ny.0 (sym (fed_cons x xs us) ∙ e ∙ fed_cons y ys ws)
 
     go : ((more : List (List ℕ)) × (xs ≡ ys ++ more)) ⊎ ((line : List ℕ) × (more : List (List ℕ)) × (ys ≡ xs ++ line ∷ more) × HasNoFeed line × (us ≡ line ++ 10 ∷ (fed more ++ ws)))
-        → ((more : List (List ℕ)) × (x ∷ xs ≡ y ∷ (ys ++ more))) ⊎ ((line : List ℕ) × (more : List (List ℕ)) × (y ∷ ys ≡ x ∷ (xs ++ line ∷ more)) × HasNoFeed line × (us ≡ line ++ 10 ∷ (fed more ++ ws)))
+        → ((more : List (List ℕ)) × (x ∷ xs ≡ y ∷ (ys ++ more))) ⊎
+            ((line : List ℕ) × (more : List (List ℕ)) × (y ∷ ys ≡ x ∷ (xs ++ line ∷ more)) × HasNoFeed line × (us ≡ line ++ 10 ∷ (fed more ++ ws)))
     go (inl (more, is)) = inl (more, ap (λ t. t ∷ xs) same.0 ∙ ap (λ t. y ∷ t) is)
     go (inr (line, more, is, none, rest)) = inr (line, more, ap (λ t. t ∷ ys) (sym same.0) ∙ ap (λ t. x ∷ t) is, none, rest)
 

@@ -80,7 +80,8 @@ kind_after ws n s words kinds.Task k e still stands =
     let goes : Stands (ws ++ words ∷ []) s.version (with_last s.closed s.current) (Some (record { name = p.name; line = n; priority = opening_priority s; vertices = []; edges = [] }))
     = task_goes ws n s words p is s.current refl stands in
     subst (λ l. Follows (ws ++ words ∷ []) (Some (after_kind kinds.Task n s l))) (sym p.words_are)
-    (subst (λ b. StandsAt b (ws ++ words ∷ []) s.version (with_last s.closed s.current) (Some (record { name = p.name; line = n; priority = opening_priority s; vertices = []; edges = [] }))) (sym still) goes)
+    (subst (λ b. StandsAt b (ws ++ words ∷ []) s.version (with_last s.closed s.current)
+        (Some (record { name = p.name; line = n; priority = opening_priority s; vertices = []; edges = [] }))) (sym still) goes)
 kind_after ws n s words kinds.Vertex k e still stands =
     let p = vertex_passed s words e in
     let is = vertex_kind s.version p.word (ap (λ l. kind s.version (first_word l)) (sym p.words_are) ∙ k) in
@@ -99,7 +100,8 @@ kind_after ws n s words kinds.Priority k e still stands =
     let p = priority_passed s words e in
     let is = priority_kind s.version p.word (ap (λ l. kind s.version (first_word l)) (sym p.words_are) ∙ k) in
     let change = with_priority (capped p.number) in
-    let goes = out_task (ws ++ words ∷ []) s.version s.closed change s.current p.draft p.in_a_task (priority_goes ws s words p is.0 is.1 (in_task ws s.version s.closed s.current p.draft p.in_a_task stands)) in
+    let goes = out_task (ws ++ words ∷ []) s.version s.closed change s.current p.draft p.in_a_task
+        (priority_goes ws s words p is.0 is.1 (in_task ws s.version s.closed s.current p.draft p.in_a_task stands)) in
     subst (λ l. Follows (ws ++ words ∷ []) (Some (after_kind kinds.Priority n s l))) (sym p.words_are)
     (subst (λ b. StandsAt b (ws ++ words ∷ []) s.version s.closed (option_map change s.current)) (sym still) goes)
 kind_after ws n s words kinds.End k e still stands =
@@ -152,7 +154,8 @@ head_follows n (word ∷ version ∷ []) below e = go (bytes_eq word drt_word) r
     go true isd false iso false ist h = absurd (cc)
     go false isd o iso t ist h = absurd (cc)
 
-pub line_follows : (ws : List (List (List ℕ))) (n : ℕ) (above : Option State) (line : List ℕ) (words : List (List ℕ)) (below : Option State) → line_step n above line words ≡ Ok below → Follows ws above
+pub line_follows : (ws : List (List (List ℕ))) (n : ℕ) (above : Option State) (line : List ℕ) (words : List (List ℕ)) (below : Option State)
+    → line_step n above line words ≡ Ok below → Follows ws above
     → Follows (ws ++ words ∷ []) below
 unfolding line_step judged
 line_follows ws n None line words below e follows = rw follows (head_follows n words below e)
@@ -177,7 +180,8 @@ steps_follow [] ws n m above below e follows =
 steps_follow (line ∷ ls) ws n m above below e follows =
     go (λ ws2 above2 on f. steps_follow ls ws2 (n + 1) m above2 below on f) (is_skipped (fields line)) refl (line_step n above line (fields line)) refl e
   where
-    go : ((ws2 : List (List (List ℕ))) (above2 : Option State) → steps (n + 1) above2 ls ≡ Ok (m, below) → Follows ws2 above2 → Follows (ws2 ++ filter (λ words. not (is_skipped words)) (map fields ls)) below)
+    go : ((ws2 : List (List (List ℕ))) (above2 : Option State) → steps (n + 1) above2 ls ≡ Ok (m, below) → Follows ws2 above2
+        → Follows (ws2 ++ filter (λ words. not (is_skipped words)) (map fields ls)) below)
         → (b : Bool) → is_skipped (fields line) ≡ b → (r : Result (Option State) FileFault) → line_step n above line (fields line) ≡ r
         → (cond b (Ok above) r >>= λ mid. steps (n + 1) mid ls) ≡ Ok (m, below)
         → Follows (ws ++ filter (λ words. not (is_skipped words)) (map fields (line ∷ ls))) below

@@ -67,7 +67,8 @@ finished ls n s none taken ended =
     (every_weaker IsWhole (λ x. 1 ≤ length x.vertices) (λ x h. h.vertices) ds every) (every_weaker IsWhole (λ x. (k : ℕ) × (x.priority ≡ Some k)) (λ x h. h.priority) ds every) in
     let finish_is : finish n (Some s) ≡ Ok (set_of s) = ap (λ r. r >>= λ es. Ok (record { version = s.version; tasks = map task_of es })) closed in
     let reads : read_text (fed ls) ≡ Ok (set_of s)
-    = ap (λ l. steps 1 None l >>= λ (x : ℕ × Option State). finish x.0 x.1) (fed_lines ls none) ∙ ap (λ r. r >>= λ (x : ℕ × Option State). finish x.0 x.1) (plain_steps ls 1 n None (Some s) taken) ∙ finish_is in
+    = ap (λ l. steps 1 None l >>= λ (x : ℕ × Option State). finish x.0 x.1) (fed_lines ls none) ∙ ap (λ r. r >>= λ (x : ℕ × Option State). finish x.0 x.1)
+        (plain_steps ls 1 n None (Some s) taken) ∙ finish_is in
     record {
       limits = (read_says (fed ls) (set_of s) reads).limits;
       fed_is = sym went.0 ∙ ap (λ b. written (lines_of s.version ds b)) ended ∙ ap (λ l. written (version_line s.version ∷ (l ++ end_line ∷ []))) (drafts_print s.version ds every);
@@ -84,7 +85,8 @@ prefix_open ls n above none taken still = go (completes ls n above taken still)
         (set_of t, fed more, f.limits, sym (fed_both ls more) ∙ f.fed_is)
 
 -- A line that isn't taken begins none.
-pub no_prefix : (ls : List (List ℕ)) (n : ℕ) (above : Option State) (line : List ℕ) → AllByRecursion HasNoFeed (ls ++ line ∷ []) → strict_steps 1 None ls ≡ Some (n, above) → strict_step n above line ≡ None
+pub no_prefix : (ls : List (List ℕ)) (n : ℕ) (above : Option State) (line : List ℕ) → AllByRecursion HasNoFeed (ls ++ line ∷ [])
+    → strict_steps 1 None ls ≡ Some (n, above) → strict_step n above line ≡ None
     → IsCanonicalPrefix (fed (ls ++ line ∷ [])) → ⊥
 no_prefix ls n above line none taken refused (set, rest, is, e) =
     let p = print_of set is in
@@ -117,7 +119,8 @@ pub record Beside (bytes : List ℕ) (set : Contents) (count : ℕ) (ls : List (
   pub either : ((more : List (List ℕ)) × (ls ≡ p.ls ++ more))
       ⊎ ((line : List ℕ) × (more : List (List ℕ)) × (p.ls ≡ ls ++ line ∷ more) × HasNoFeed line × (rest ≡ line ++ 10 ∷ (fed more ++ drop count bytes)))
 
-pub beside : (bytes : List ℕ) (set : Contents) (count : ℕ) (ls : List (List ℕ)) (rest : List ℕ) → AllByRecursion HasNoFeed ls → bytes ≡ fed ls ++ rest → BeginsWith bytes set count → Beside bytes set count ls rest
+pub beside : (bytes : List ℕ) (set : Contents) (count : ℕ) (ls : List (List ℕ)) (rest : List ℕ) → AllByRecursion HasNoFeed ls → bytes ≡ fed ls ++ rest
+    → BeginsWith bytes set count → Beside bytes set count ls rest
 beside bytes set count ls rest none are b =
     let p = print_of set b.limits in
     let e : fed ls ++ rest ≡ fed p.ls ++ drop count bytes = sym are ∙ sym (take-append-drop count bytes) ∙ ap (λ t. t ++ drop count bytes) (b.front ∙ sym p.fed_is) in
@@ -145,7 +148,8 @@ begins_none bytes ls n above rest none are taken still stuck set count b = go (b
             cc
 
 -- Where lines end with `end`, each canonical text at the front is theirs.
-pub begins_one : (bytes : List ℕ) (ls : List (List ℕ)) (n : ℕ) (s : State) (rest : List ℕ) → AllByRecursion HasNoFeed ls → bytes ≡ fed ls ++ rest → strict_steps 1 None ls ≡ Some (n, Some s) → s.ended ≡ true
+pub begins_one : (bytes : List ℕ) (ls : List (List ℕ)) (n : ℕ) (s : State) (rest : List ℕ) → AllByRecursion HasNoFeed ls → bytes ≡ fed ls ++ rest
+    → strict_steps 1 None ls ≡ Some (n, Some s) → s.ended ≡ true
     → (set : Contents) (count : ℕ) → BeginsWith bytes set count → (set_of s ≡ set) × (length (fed ls) ≡ count)
 begins_one bytes ls n s rest none are taken ended set count b = go (beside bytes set count ls rest none are b)
   where

@@ -27,7 +27,8 @@ unfolding steps step
 leads_none P [] e n above p = (n, above, refl, p)
 leads_none P (line ∷ ls) e n above p = go (λ h. leads_none P ls h (n + 1) above p) (is_skipped (fields line)) refl e
   where
-    go : (kept ls ≡ [] → (m : ℕ) × (below : Option State) × (steps (n + 1) above ls ≡ Ok (m, below)) × P below) → (b : Bool) → is_skipped (fields line) ≡ b → cond (not b) (fields line ∷ kept ls) (kept ls) ≡ []
+    go : (kept ls ≡ [] → (m : ℕ) × (below : Option State) × (steps (n + 1) above ls ≡ Ok (m, below)) × P below) → (b : Bool) → is_skipped (fields line) ≡ b
+        → cond (not b) (fields line ∷ kept ls) (kept ls) ≡ []
         → (m : ℕ) × (below : Option State) × (steps n above (line ∷ ls) ≡ Ok (m, below)) × P below
     go on false at h = absurd (cc)
     go on true at h =
@@ -132,7 +133,8 @@ pub text_again : (line : List ℕ) (words : List (List ℕ)) → fields line ≡
 text_again line words is e = (fields_text line [] (ap (list_all (list_all is_text)) is ∙ e)).1
 
 -- A line without a fault is taken.
-pub takes : (n : ℕ) (s : State) (line : List ℕ) (words : List (List ℕ)) (k : Kind) → list_all is_text line ≡ true → s.ended ≡ false → kind s.version (first_word words) ≡ k → kind_fault k s words ≡ None
+pub takes : (n : ℕ) (s : State) (line : List ℕ) (words : List (List ℕ)) (k : Kind) → list_all is_text line ≡ true → s.ended ≡ false
+    → kind s.version (first_word words) ≡ k → kind_fault k s words ≡ None
     → line_step n (Some s) line words ≡ Ok (Some (after_kind k n s words))
 unfolding line_step line_fault judged
 takes n s line words k text still is none =

@@ -16,7 +16,8 @@ line_read n above below line rest others total cut ok so_far =
     let one : steps n above (lines rest) ≡ steps (n + 1) below (lines others) = rw (cut, ok) refl in
     sym one ∙ so_far
 
-pub line_fails : (e : FileError) (n : ℕ) (above : Option State) (line rest others : List ℕ) (total : Result (ℕ × Option State) FileFault) → lines rest ≡ line ∷ lines others → Fails e (step n above line)
+pub line_fails : (e : FileError) (n : ℕ) (above : Option State) (line rest others : List ℕ) (total : Result (ℕ × Option State) FileFault)
+    → lines rest ≡ line ∷ lines others → Fails e (step n above line)
     → steps n above (lines rest) ≡ total → Fails e total
 unfolding steps
 line_fails errors.Memory n above line rest others total cut fails so_far = tt

@@ -155,7 +155,8 @@ unfolding on_current vertex_names own_vertices with_vertex
 one_more v s d at = rw at (map_push (λ v. v.name) d.vertices v)
 
 -- after a `vertex` line
-pub names_after_vertex : (v : Vertex) (s r t : State) (word : List ℕ) (tasks vertices more : List (List ℕ)) → HasNames s tasks vertices → s ≡ r → is_outside r ≡ false → t ≡ on_current (with_vertex v) s
+pub names_after_vertex : (v : Vertex) (s r t : State) (word : List ℕ) (tasks vertices more : List (List ℕ)) → HasNames s tasks vertices → s ≡ r → is_outside r ≡ false
+    → t ≡ on_current (with_vertex v) s
     → more ≡ vertices ++ word ∷ [] → word ≡ v.name → HasNames t tasks more
 unfolding with_vertex
 names_after_vertex v s r t word tasks vertices more has view within at grown same =
@@ -171,7 +172,9 @@ pub ends_by_place : (from to : List ℕ) (sep : ℕ) (s : State)
 unfolding on_current joined_draft with_edge own_vertices
 ends_by_place from to sep s = go s.current refl
   where
-    go : (o : Option Draft) → s.current ≡ o → on_current (joined_draft (record { from = narrow (place_of_name from (own_vertices s)); to = narrow (place_of_name to (own_vertices s)); sep = sep })) s ≡ on_current (with_edge from to sep) s
+    go : (o : Option Draft) → s.current ≡ o
+        → on_current (joined_draft (record { from = narrow (place_of_name from (own_vertices s)); to = narrow (place_of_name to (own_vertices s)); sep = sep })) s ≡
+        on_current (with_edge from to sep) s
     go None at = rw at refl
     go (Some d) at = rw at refl
 

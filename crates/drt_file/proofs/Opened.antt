@@ -96,7 +96,8 @@ count_none : (s : State) → s.current ≡ None → task_count s ≡ length s.cl
 unfolding task_count is_outside
 count_none s at = rw at (omega arith)
 
-pub task_goes : (ws : List (List (List ℕ))) (n : ℕ) (s : State) (words : List (List ℕ)) (p : TaskPassed s words) → p.word ≡ task_word → (o : Option Draft) → s.current ≡ o → Stands ws s.version s.closed o
+pub task_goes : (ws : List (List (List ℕ))) (n : ℕ) (s : State) (words : List (List ℕ)) (p : TaskPassed s words) → p.word ≡ task_word → (o : Option Draft) → s.current ≡ o
+    → Stands ws s.version s.closed o
     → Inside (ws ++ words ∷ []) s.version (with_last s.closed o) (record { name = p.name; line = n; priority = opening_priority s; vertices = []; edges = [] })
 unfolding with_last
 task_goes ws n s words p is None at stands =

@@ -26,7 +26,8 @@ pub step_taken : (n : ℕ) (above : Option State) (line : List ℕ) (s : State) 
 unfolding strict_step left_by
 step_taken n above line s e = go (bytes_eq (join_with_byte 32 (fields line)) line) refl (fits_below above (fields line)) refl (line_step n above line (fields line)) refl e
   where
-    go : (j : Bool) → bytes_eq (join_with_byte 32 (fields line)) line ≡ j → (f : Bool) → fits_below above (fields line) ≡ f → (r : Result (Option State) FileFault) → line_step n above line (fields line) ≡ r
+    go : (j : Bool) → bytes_eq (join_with_byte 32 (fields line)) line ≡ j → (f : Bool) → fits_below above (fields line) ≡ f → (r : Result (Option State) FileFault)
+        → line_step n above line (fields line) ≡ r
         → cond (j && f) (left_by r) None ≡ Some s → Taken n above line s
     go true isj true isf (Ok below) isr h = record { joined = (bytes_eq-Decides (join_with_byte 32 (fields line)) line).0 isj; fits = isf; goes = isr ∙ ap (λ o. Ok o) h }
     go true isj true isf (Err f) isr h = absurd (cc)
@@ -146,7 +147,8 @@ first_taken n above line ls r e = go (strict_step n above line) refl e
     go None at h = absurd (cc)
     go (Some s) at h = (s, at, h)
 
-pub taken_first : (n : ℕ) (above : Option State) (line : List ℕ) (ls : List (List ℕ)) (s : State) → strict_step n above line ≡ Some s → strict_steps n above (line ∷ ls) ≡ strict_steps (n + 1) (Some s) ls
+pub taken_first : (n : ℕ) (above : Option State) (line : List ℕ) (ls : List (List ℕ)) (s : State) → strict_step n above line ≡ Some s
+    → strict_steps n above (line ∷ ls) ≡ strict_steps (n + 1) (Some s) ls
 unfolding strict_steps
 taken_first n above line ls s e = ap (option_and_then (λ t. strict_steps (n + 1) (Some t) ls)) e
 

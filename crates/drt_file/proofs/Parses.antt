@@ -65,7 +65,8 @@ unfolding parsed read_as judged
 stops n s line words after errors.Memory h = tt
 stops n s line words after (errors.Fault f) h = go (line_fault s line words) h
   where
-    go : (o : Option ℕ) → ◌≡◌ {A = Result Line FileFault} (read_as n o (said_by (kind s.version (first_word words)) s words)) (Err f) → ◌≡◌ {A = Result (Option State) FileFault} (judged n o after) (Err f)
+    go : (o : Option ℕ) → ◌≡◌ {A = Result Line FileFault} (read_as n o (said_by (kind s.version (first_word words)) s words)) (Err f)
+        → ◌≡◌ {A = Result (Option State) FileFault} (judged n o after) (Err f)
     go None e = absurd (cc)
     go (Some code) e = let same : record { line = n; code = code } ≡ f = cc in ap (λ (x : FileFault). Err x) same
 

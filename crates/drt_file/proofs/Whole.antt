@@ -161,7 +161,8 @@ read_of words version closed (Some d) es n e (above, are, at) =
       distinct_priorities = pairs_all _ (map task_of all) (priority_keys version all keys c.priorities);
       in_order = λ one i t g. in_order_at 1 all i t (keys.in_order one) g;
     } in
-    subst (λ (x : List Draft). IsTaskSet version (map task_of x) × ((ls : List (List (List ℕ))) × (words ≡ version_line version ∷ (ls ++ end_line ∷ [])) × SaysTasks version ls (map task_of x))) (sym c.same)
+    subst (λ (x : List Draft). IsTaskSet version (map task_of x)
+        × ((ls : List (List (List ℕ))) × (words ≡ version_line version ∷ (ls ++ end_line ∷ [])) × SaysTasks version ls (map task_of x))) (sym c.same)
     (limits, (at.done ++ at.own, are ∙ ap (λ l. l ++ end_line ∷ []) at.ws_are, said.0))
 
 finish_reads : (bytes : List ℕ) (n : ℕ) (above : Option State) (set : Contents) → Follows (said bytes) above → finish n above ≡ Ok set → Reads bytes set
@@ -169,7 +170,8 @@ unfolding finish
 finish_reads bytes n None set follows e = absurd (cc)
 finish_reads bytes n (Some s) set follows e = go (closing n (with_last s.closed s.current) s.ended) refl e
   where
-    go : (r : Result (List Draft) FileFault) → closing n (with_last s.closed s.current) s.ended ≡ r → (r >>= λ ds. Ok (record { version = s.version; tasks = map task_of ds })) ≡ Ok set → Reads bytes set
+    go : (r : Result (List Draft) FileFault) → closing n (with_last s.closed s.current) s.ended ≡ r
+        → (r >>= λ ds. Ok (record { version = s.version; tasks = map task_of ds })) ≡ Ok set → Reads bytes set
     go (Err f) at h = absurd (cc)
     go (Ok es) at h =
         let c = closing_is n (with_last s.closed s.current) es s.ended at in

@@ -61,7 +61,8 @@ module _ (tasks : List Task) (walks : List (List ℕ)) (k v d : ℕ) where
     ]
 
     -- Walks that are the same are due, too.
-    pub due_walks : (others : ℕ → List ℕ) → ((i : ℕ) → i < length tasks → others i ≡ job_walk_in_file_order tasks walks k v d i) → (gs : List Digraph) → gs ≡ graphs_of tasks → AreDueWalks gs others 2000000
+    pub due_walks : (others : ℕ → List ℕ) → ((i : ℕ) → i < length tasks → others i ≡ job_walk_in_file_order tasks walks k v d i) → (gs : List Digraph)
+        → gs ≡ graphs_of tasks → AreDueWalks gs others 2000000
     due_walks others same gs is i l =
         let m : i < length tasks = omega (arith, l, ap length is, length-map tasks digraph_of) in
         let e : graph_of gs i ≡ graph_at tasks i = ap (λ xs. graph_of xs i) is ∙ graph_same tasks i m in

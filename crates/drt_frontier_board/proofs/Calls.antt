@@ -127,7 +127,8 @@ module _ (t : FrontierSetting) (s : FrontierState) (w : ℕ) (nodes : List ℕ) 
   fails_held id (Split k place) can = tt
   fails_held id (Fail k) can = equals id k (same_Some id k can.0)
 
-  settle_go : (id : ℕ) (step : FrontierStep) → IsFoundCombination s.combinations w (Some id) nodes f → is_expected_combination (Some id) f ≡ true → CanMake t (Some id) nodes step → CanGo t s w (Some id) step
+  settle_go : (id : ℕ) (step : FrontierStep) → IsFoundCombination s.combinations w (Some id) nodes f → is_expected_combination (Some id) f ≡ true
+      → CanMake t (Some id) nodes step → CanGo t s w (Some id) step
   settle_go id step is e can =
       let x : IsSeen s w id nodes = seen id is e in
       let does : Settles t id x.combination step = settles id x step can in

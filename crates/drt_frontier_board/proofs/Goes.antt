@@ -59,7 +59,8 @@ module _ (t : FrontierSetting) (s : FrontierState) (held : Option ℕ) where
   goes_take : (w : ℕ) (o u : Option ℕ) → first is_combination_pending s.combinations ≡ o → Goes Take (taken t s w o u)
   goes_take w None None is = stays Take Finished refl tt refl
   goes_take w None (Some h) is = full_or Take (unchanged s (Busy h)) tt (λ lt. stays Take (Busy h) refl tt refl) (is_full t s) refl
-  goes_take w (Some k) u is = full_or Take (logged_outcome s (record { worker = w; step = Take }) (changed k (with_state (TakenBy w)) s.combinations) (Taken k)) tt (λ lt. takes w k is lt) (is_full t s) refl
+  goes_take w (Some k) u is = full_or Take (logged_outcome s (record { worker = w; step = Take }) (changed k (with_state (TakenBy w)) s.combinations) (Taken k)) tt
+      (λ lt. takes w k is lt) (is_full t s) refl
 
   nothing : (r : FrontierReply) → taken_by r ≡ None → (n k : ℕ) → taken_by r ≡ Some k → k < n
   nothing r no_one n k e = absurd (none-some k (sym no_one ∙ e))

@@ -21,7 +21,8 @@ pub record IsBoundedSearch (g : Digraph) (bound budget : ℕ) (log : List Entry)
   -- and fewer where it isn't finished
   pub unfinished : is_finished demand_algebra (search_of g bound budget) (state_after_log g bound budget log) ≡ false → length log < table_need g bound
   -- each label is added at most once
-  pub once : (i j : ℕ) (m n : NodeOf FrontEntry) → slice_get (state_after_log g bound budget log).nodes i ≡ Some m → slice_get (state_after_log g bound budget log).nodes j ≡ Some n → m.label ≡ n.label → i ≡ j
+  pub once : (i j : ℕ) (m n : NodeOf FrontEntry) → slice_get (state_after_log g bound budget log).nodes i ≡ Some m
+      → slice_get (state_after_log g bound budget log).nodes j ≡ Some n → m.label ≡ n.label → i ≡ j
   -- each node has at most so many steps
   pub each : (i : ℕ) (n : NodeOf FrontEntry) → slice_get (state_after_log g bound budget log).nodes i ≡ Some n → node_entries n ≤ most_out g.out + 2
   -- at most one node is kept for each vertex and offset

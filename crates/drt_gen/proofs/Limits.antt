@@ -54,7 +54,8 @@ small_number j l = elim (cases_lt j 10) [
       let first : decimal (j / 10) ≡ (48 + j / 10) ∷ [] = decimal_digit (j / 10) (omega arith) in
       let e : decimal j ≡ (48 + j / 10) ∷ (48 + j % 10) ∷ [] = decimal_step j two (omega arith) ∙ ap (λ ds. ds ++ (48 + j % 10) ∷ []) first in
       subst (λ ds. All IsNameByte ds × (length ds ≤ 2)) (sym e)
-      (All-cons IsNameByte (48 + j / 10) ((48 + j % 10) ∷ []) (digit (j / 10) (omega arith)) (All-cons IsNameByte (48 + j % 10) [] (digit (j % 10) (mod_below j 10 (omega arith))) (All-nil IsNameByte)), omega arith)
+      (All-cons IsNameByte (48 + j / 10) ((48 + j % 10) ∷ []) (digit (j / 10) (omega arith))
+          (All-cons IsNameByte (48 + j % 10) [] (digit (j % 10) (mod_below j 10 (omega arith))) (All-nil IsNameByte)), omega arith)
 ]
 
 pub name : (b j : ℕ) → IsNameByte b → j < 12 → IsName (b ∷ decimal j)
@@ -79,7 +80,10 @@ period_within x k =
     let P : ℕ → Type 0 = λ p. (100 ≤ p) × (p ≤ 600) in
     All-get_or P periods (draw x k 8) 0 (mod_below _ 8 (omega arith))
     (All-from_recursion P periods
-    ((omega arith, omega arith), ((omega arith, omega arith), ((omega arith, omega arith), ((omega arith, omega arith), ((omega arith, omega arith), ((omega arith, omega arith), ((omega arith, omega arith), ((omega arith, omega arith), tt)))))))))
+    ((omega arith, omega arith),
+        ((omega arith, omega arith),
+        ((omega arith, omega arith),
+        ((omega arith, omega arith), ((omega arith, omega arith), ((omega arith, omega arith), ((omega arith, omega arith), ((omega arith, omega arith), tt)))))))))
 
 module _ (x p : ℕ) (lo : 100 ≤ p) (hi : p ≤ 600) where
   wcet_below : (k : ℕ) → draw x k (p / 15) < p / 15
@@ -206,7 +210,8 @@ task_constrained x k i =
     let Kept : Edge → Type 0 = λ e. IfSome (slice_get vertices e.from) (λ v. v.deadline ≤ e.sep) in
     each_flat Kept (λ j. drawn_edges p x (k + 25 + 3 * j) j) 0 12 (λ j least l.
     each_edge x p within.0 within.1 Kept (k + 25 + 3 * j) j (λ to sep in_range lo hi.
-    some_of (λ v. v.deadline ≤ sep) vertices j (vertex 0) (omega (arith, l, length-map-range_with_len vertex 0 12)) (All-weaker (λ v. v.deadline ≤ p) (λ v. v.deadline ≤ sep) (λ v due_by. omega (arith, due_by, lo)) vertices due)))
+    some_of (λ v. v.deadline ≤ sep) vertices j (vertex 0) (omega (arith, l, length-map-range_with_len vertex 0 12))
+        (All-weaker (λ v. v.deadline ≤ p) (λ v. v.deadline ≤ sep) (λ v due_by. omega (arith, due_by, lo)) vertices due)))
 
 -- A task keeps the limits.
 pub task_limits : (x k i : ℕ) → i < 12 → IsTask 1 (drawn_task x k i)
@@ -225,7 +230,9 @@ task_limits x k i l =
       vertices = each_of vertex IsVertex 12 (λ j m. vertex_limits x p within.0 within.1 (k + 1 + 2 * j) j m);
       distinct_names = pairs_of vertex (λ u v. u.name ≢ v.name) 12 (vertex_names p x (k + 1));
       at_most_256_edges = omega (arith, flat_length edges 0 12 (λ j. few_edges x p within.0 within.1 (k + 25 + 3 * j) j));
-      edges = each_flat (IsEdgeAmong 12) edges 0 12 (λ j m n. each_edge x p within.0 within.1 (IsEdgeAmong 12) (k + 25 + 3 * j) j (λ to sep in_range least most. record { from = omega arith; to = in_range; sep = (omega arith, omega arith) }));
+      edges = each_flat (IsEdgeAmong 12) edges 0 12
+          (λ j m n. each_edge x p within.0 within.1 (IsEdgeAmong 12) (k + 25 + 3 * j) j
+          (λ to sep in_range least most. record { from = omega arith; to = in_range; sep = (omega arith, omega arith) }));
       one_edge_each_way = edges_apart x p within.0 within.1 (k + 25) 0 12;
     }
 

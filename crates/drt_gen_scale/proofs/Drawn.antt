@@ -26,7 +26,11 @@ unfolding drawn_period
 period_divides x k =
     let P : ℕ → Type 0 = λ p. p ∣ 1200 in
     All-get_or P periods (draw x k 8) 0 (mod_below _ 8 (omega arith))
-    (All-from_recursion P periods (dvd_of_mod-eq-zero 100 refl, (dvd_of_mod-eq-zero 120 refl, (dvd_of_mod-eq-zero 150 refl, (dvd_of_mod-eq-zero 200 refl, (dvd_of_mod-eq-zero 240 refl, (dvd_of_mod-eq-zero 300 refl, (dvd_of_mod-eq-zero 400 refl, (dvd_of_mod-eq-zero 600 refl, tt)))))))))
+    (All-from_recursion P periods
+        (dvd_of_mod-eq-zero 100 refl,
+        (dvd_of_mod-eq-zero 120 refl,
+        (dvd_of_mod-eq-zero 150 refl,
+        (dvd_of_mod-eq-zero 200 refl, (dvd_of_mod-eq-zero 240 refl, (dvd_of_mod-eq-zero 300 refl, (dvd_of_mod-eq-zero 400 refl, (dvd_of_mod-eq-zero 600 refl, tt)))))))))
 
 -- A separation is the period or twice that.
 abbrev IsSep : ℕ → Edge → Type 0
@@ -84,7 +88,8 @@ task_dens x k i l r is =
     den_of (digraph_of t) (drawn_period x k) (gaps_of t (drawn_period x k) sound (task_seps x k i)) sound (task_size x k i) (period_divides x k) r is
 
 -- And each of a list of tasks.
-all_dens : (tasks : List Task) (ratios : List Fraction) → All (λ t. (r : Fraction) → IsRatio (digraph_of t) r → r.den ∣ most_drawn_scale) tasks → AreRatios (map digraph_of tasks) ratios → EachDivides ratios most_drawn_scale
+all_dens : (tasks : List Task) (ratios : List Fraction) → All (λ t. (r : Fraction) → IsRatio (digraph_of t) r → r.den ∣ most_drawn_scale) tasks
+    → AreRatios (map digraph_of tasks) ratios → EachDivides ratios most_drawn_scale
 all_dens [] [] each are = tt
 all_dens [] (r ∷ ratios) each are = absurd are
 all_dens (t ∷ tasks) [] each are = absurd are

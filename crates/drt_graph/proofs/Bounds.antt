@@ -26,7 +26,8 @@ pub most_at : (g : Digraph) (f : ℕ → ℤ) (v : ℕ) → v < vertex_count g �
 most_at g f v l = at_most f (vertex_count g - 1) v (omega arith)
 
 -- Along a walk the potentials rise by at least its gain.
-pub rises : (g : Digraph) (a b : ℕ) (hs : List ℤ) → ((u v : ℕ) → IsEdge g u v → (pos (b * wcet g v) -ℤ pos (a * gap g u v)) ≤ℤ (potential_of hs v -ℤ potential_of hs u)) → (u : ℕ) (vs : List ℕ) → IsPath g u vs → (pos (b * work g vs) -ℤ pos (a * span g u vs)) ≤ℤ (potential_of hs (last_of u vs) -ℤ potential_of hs u)
+pub rises : (g : Digraph) (a b : ℕ) (hs : List ℤ) → ((u v : ℕ) → IsEdge g u v → (pos (b * wcet g v) -ℤ pos (a * gap g u v)) ≤ℤ (potential_of hs v -ℤ potential_of hs u))
+    → (u : ℕ) (vs : List ℕ) → IsPath g u vs → (pos (b * work g vs) -ℤ pos (a * span g u vs)) ≤ℤ (potential_of hs (last_of u vs) -ℤ potential_of hs u)
 rises g a b hs fits u [] is = rw (work_none, span_none) (omega (arith, ints))
 rises g a b hs fits u (v ∷ vs) is =
     let h = fits u v is.0 in
@@ -34,7 +35,8 @@ rises g a b hs fits u (v ∷ vs) is =
     rw (work_cons, span_cons) (omega (arith, ints, h, r))
 
 -- The work of a walk is bounded by its last deadline.
-pub work_is_bounded : (g : Digraph) → IsSoundGraph g → (a b : ℕ) (hs : List ℤ) → FitPotentials g a b hs → (u : ℕ) (vs : List ℕ) → u < vertex_count g → IsPath g u vs → pos (b * work g (u ∷ vs)) ≤ℤ (pos (a * (span g u vs + deadline g (last_of u vs))) +ℤ constant_of g a b hs)
+pub work_is_bounded : (g : Digraph) → IsSoundGraph g → (a b : ℕ) (hs : List ℤ) → FitPotentials g a b hs → (u : ℕ) (vs : List ℕ) → u < vertex_count g → IsPath g u vs
+    → pos (b * work g (u ∷ vs)) ≤ℤ (pos (a * (span g u vs + deadline g (last_of u vs))) +ℤ constant_of g a b hs)
 work_is_bounded g sound a b hs fits u vs l is =
     let w = last_of u vs in
     let r = rises g a b hs (λ x y e. fits x y (gap g x y) e) u vs is in
@@ -55,7 +57,8 @@ scaled scale a b q e d t k s l m =
     rw (← s) (omega (arith, x, y))
 
 -- At a scale, the work of a walk that is due by t is bounded by t and the constant.
-pub scaled_work : (g : Digraph) (a b : ℕ) (hs : List ℤ) (scale t u : ℕ) (vs : List ℕ) → IsSoundGraph g → FitPotentials g a b hs → b ∣ scale → u < vertex_count g → IsPath g u vs → span g u vs + deadline g (last_of u vs) ≤ t → scale * work g (u ∷ vs) ≤ a * (scale / b) * t + above_zero (constant_of g a b hs) * (scale / b)
+pub scaled_work : (g : Digraph) (a b : ℕ) (hs : List ℤ) (scale t u : ℕ) (vs : List ℕ) → IsSoundGraph g → FitPotentials g a b hs → b ∣ scale → u < vertex_count g
+    → IsPath g u vs → span g u vs + deadline g (last_of u vs) ≤ t → scale * work g (u ∷ vs) ≤ a * (scale / b) * t + above_zero (constant_of g a b hs) * (scale / b)
 scaled_work g a b hs scale t u vs sound fits divides l is due =
     scaled scale a b (scale / b) (work g (u ∷ vs)) (span g u vs + deadline g (last_of u vs)) t (above_zero (constant_of g a b hs)) (mul-div_cancel' b divides)
     (unsigned _ _ (constant_of g a b hs) (work_is_bounded g sound a b hs fits u vs l is)) due

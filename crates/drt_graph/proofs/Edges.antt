@@ -36,7 +36,8 @@ none_left [] (suc i) v l = refl
 none_left (x ∷ edges) zero v l = absurd (omega arith)
 none_left (x ∷ edges) (suc i) v l = none_left edges i v (omega arith)
 
-sep_at : (edges : List Edge) (k : ℕ) (d : Edge) → k < length edges → ((j : ℕ) → j < k → (get_or edges j d).to ≡ (get_or edges k d).to → ⊥) → sep_in edges (get_or edges k d).to ≡ Some (get_or edges k d).sep
+sep_at : (edges : List Edge) (k : ℕ) (d : Edge) → k < length edges → ((j : ℕ) → j < k → (get_or edges j d).to ≡ (get_or edges k d).to → ⊥)
+    → sep_in edges (get_or edges k d).to ≡ Some (get_or edges k d).sep
 unfolding sep_in
 sep_at [] k d l differ = absurd (omega arith)
 sep_at (x ∷ edges) zero d l differ = rw (here x.to) refl
@@ -49,7 +50,8 @@ unfolding sep_in
 at_sep [] v p d e = absurd (cc)
 at_sep (x ∷ edges) v p d e = go (eqb x.to v) refl (λ h. at_sep edges v p d h)
   where
-    go : (b : Bool) → eqb x.to v ≡ b → (sep_in edges v ≡ Some p → (k : ℕ) × (k < length edges) × ((get_or edges k d).to ≡ v) × ((get_or edges k d).sep ≡ p)) → (k : ℕ) × (k < suc (length edges)) × ((get_or (x ∷ edges) k d).to ≡ v) × ((get_or (x ∷ edges) k d).sep ≡ p)
+    go : (b : Bool) → eqb x.to v ≡ b → (sep_in edges v ≡ Some p → (k : ℕ) × (k < length edges) × ((get_or edges k d).to ≡ v) × ((get_or edges k d).sep ≡ p))
+        → (k : ℕ) × (k < suc (length edges)) × ((get_or (x ∷ edges) k d).to ≡ v) × ((get_or (x ∷ edges) k d).sep ≡ p)
     go true q ih = (0, omega arith, eqb-true x.to v q, let f = rw q at e in cc)
     go false q ih = let r = ih (rw q at e) in (suc r.0, omega (arith, r.1), r.2, r.3)
 

@@ -60,13 +60,15 @@ unfolding span
 span_none g u = refl
 
 -- Where each edge fits heights that stay, so does each path.
-pub fits_path : (g : Digraph) (a b : ℕ) (h : ℕ → ℕ) → ((u v : ℕ) → IsEdge g u v → h u + b * wcet g v ≤ h v + a * gap g u v) → (u : ℕ) (vs : List ℕ) → IsPath g u vs → h u + b * work g vs ≤ h (last_of u vs) + a * span g u vs
+pub fits_path : (g : Digraph) (a b : ℕ) (h : ℕ → ℕ) → ((u v : ℕ) → IsEdge g u v → h u + b * wcet g v ≤ h v + a * gap g u v) → (u : ℕ) (vs : List ℕ) → IsPath g u vs
+    → h u + b * work g vs ≤ h (last_of u vs) + a * span g u vs
 fits_path g a b h fits u [] is = rw (work_none, span_none) (omega arith)
 fits_path g a b h fits u (v ∷ vs) is =
     rw (work_cons, span_cons) (omega (arith, fits u v is.0, fits_path g a b h fits v vs is.1))
 
 -- Heights by level: each edge leads one level up.
-pub climbs_path : (g : Digraph) (a b n : ℕ) (h : ℕ → ℕ → ℕ) → ((k u v : ℕ) → k < n → IsEdge g u v → h k u + b * wcet g v ≤ h (suc k) v + a * gap g u v) → (k u : ℕ) (vs : List ℕ) → k + length vs ≤ n → IsPath g u vs → h k u + b * work g vs ≤ h (k + length vs) (last_of u vs) + a * span g u vs
+pub climbs_path : (g : Digraph) (a b n : ℕ) (h : ℕ → ℕ → ℕ) → ((k u v : ℕ) → k < n → IsEdge g u v → h k u + b * wcet g v ≤ h (suc k) v + a * gap g u v)
+    → (k u : ℕ) (vs : List ℕ) → k + length vs ≤ n → IsPath g u vs → h k u + b * work g vs ≤ h (k + length vs) (last_of u vs) + a * span g u vs
 climbs_path g a b n h climbs k u [] l is = let e : k + 0 ≡ k = omega arith in rw (work_none, span_none, e) (omega arith)
 climbs_path g a b n h climbs k u (v ∷ vs) l is =
     let e : suc k + length vs ≡ k + suc (length vs) = omega arith in
@@ -75,6 +77,7 @@ climbs_path g a b n h climbs k u (v ∷ vs) l is =
     rw (work_cons, span_cons) (omega (arith, climbs k u v (omega arith) is.0, s))
 
 -- So no cycle gains.
-pub fits_cycle : (g : Digraph) (a b : ℕ) (h : ℕ → ℕ) → ((u v : ℕ) → IsEdge g u v → h u + b * wcet g v ≤ h v + a * gap g u v) → (cycle : List ℕ) → IsCycle g cycle → b * work g cycle ≤ a * cycle_span g cycle
+pub fits_cycle : (g : Digraph) (a b : ℕ) (h : ℕ → ℕ) → ((u v : ℕ) → IsEdge g u v → h u + b * wcet g v ≤ h v + a * gap g u v) → (cycle : List ℕ) → IsCycle g cycle
+    → b * work g cycle ≤ a * cycle_span g cycle
 fits_cycle g a b h fits [] is = absurd is
 fits_cycle g a b h fits (v ∷ vs) is = omega (arith, fits_path g a b h fits (last_of v vs) (v ∷ vs) is)

@@ -26,7 +26,8 @@ same_cycle_turn : (x y : CycleTurn) → x.work ≡ y.work → x.span ≡ y.span 
 same_cycle_turn x y w s = ap (λ n. record { work = n; span = x.span }) w ∙ ap (λ n. record { work = y.work; span = n }) s
 
 -- A turn that is written at the end of those so far.
-pub cycle_turn_pushed : (cycle_turns whole rest : List CycleTurn) (n : ℕ) (g : Digraph) (cycle : List ℕ) (x : CycleTurn) → n < length cycle_turns → 0 < length cycle → x.work ≡ work g cycle → x.span ≡ cycle_span g cycle → take n cycle_turns ++ with_cycle_turn g cycle rest ≡ whole → take (n + 1) (set cycle_turns n x) ++ rest ≡ whole
+pub cycle_turn_pushed : (cycle_turns whole rest : List CycleTurn) (n : ℕ) (g : Digraph) (cycle : List ℕ) (x : CycleTurn) → n < length cycle_turns → 0 < length cycle
+    → x.work ≡ work g cycle → x.span ≡ cycle_span g cycle → take n cycle_turns ++ with_cycle_turn g cycle rest ≡ whole → take (n + 1) (set cycle_turns n x) ++ rest ≡ whole
 cycle_turn_pushed cycle_turns whole rest n g [] x l some w s e = absurd (omega arith)
 cycle_turn_pushed cycle_turns whole rest n g (v ∷ vs) x l some w s e =
     let y : CycleTurn = record { work = work g (v ∷ vs); span = cycle_span g (v ∷ vs) } in
@@ -36,7 +37,8 @@ cycle_turn_pushed cycle_turns whole rest n g (v ∷ vs) x l some w s e =
     ∙ e))
 
 -- A task without a cycle has none.
-pub cycle_turn_skipped : (cycle_turns whole rest : List CycleTurn) (n : ℕ) (g : Digraph) (cycle : List ℕ) → length cycle ≡ 0 → take n cycle_turns ++ with_cycle_turn g cycle rest ≡ whole → take n cycle_turns ++ rest ≡ whole
+pub cycle_turn_skipped : (cycle_turns whole rest : List CycleTurn) (n : ℕ) (g : Digraph) (cycle : List ℕ) → length cycle ≡ 0
+    → take n cycle_turns ++ with_cycle_turn g cycle rest ≡ whole → take n cycle_turns ++ rest ≡ whole
 cycle_turn_skipped cycle_turns whole rest n g [] none e = e
 cycle_turn_skipped cycle_turns whole rest n g (v ∷ vs) none e = absurd (omega arith)
 

@@ -43,7 +43,8 @@ unfolding is_step
 step_push [] c s = refl
 step_push (d ∷ cycle_turns) c s = go (eqb (s % d.span) 0) (step_push cycle_turns c s)
   where
-    go : (b : Bool) → is_step (cycle_turns ++ c ∷ []) s ≡ (is_step cycle_turns s || is_step (c ∷ []) s) → (b || is_step (cycle_turns ++ c ∷ []) s) ≡ ((b || is_step cycle_turns s) || is_step (c ∷ []) s)
+    go : (b : Bool) → is_step (cycle_turns ++ c ∷ []) s ≡ (is_step cycle_turns s || is_step (c ∷ []) s)
+        → (b || is_step (cycle_turns ++ c ∷ []) s) ≡ ((b || is_step cycle_turns s) || is_step (c ∷ []) s)
     go true ih = refl
     go false ih = ih
 
@@ -60,7 +61,8 @@ or_none true b e f = absurd (cc)
 or_none false b e f = f
 
 -- One more turn whose next time is earlier.
-pub next_less : (cycle_turns : List CycleTurn) (c : CycleTurn) (t next other : ℕ) → IsNextStepTime cycle_turns t next → IsNextStepTime (c ∷ []) t other → other < next → IsNextStepTime (cycle_turns ++ c ∷ []) t other
+pub next_less : (cycle_turns : List CycleTurn) (c : CycleTurn) (t next other : ℕ) → IsNextStepTime cycle_turns t next → IsNextStepTime (c ∷ []) t other → other < next
+    → IsNextStepTime (cycle_turns ++ c ∷ []) t other
 next_less cycle_turns c t next other p q l = record {
   after = q.after;
   step = rw step_push (or_right (is_step cycle_turns other) (is_step (c ∷ []) other) q.step);
@@ -68,7 +70,8 @@ next_less cycle_turns c t next other p q l = record {
 }
 
 -- One more turn whose next time is no earlier.
-pub next_more : (cycle_turns : List CycleTurn) (c : CycleTurn) (t next other : ℕ) → IsNextStepTime cycle_turns t next → IsNextStepTime (c ∷ []) t other → next ≤ other → IsNextStepTime (cycle_turns ++ c ∷ []) t next
+pub next_more : (cycle_turns : List CycleTurn) (c : CycleTurn) (t next other : ℕ) → IsNextStepTime cycle_turns t next → IsNextStepTime (c ∷ []) t other → next ≤ other
+    → IsNextStepTime (cycle_turns ++ c ∷ []) t next
 next_more cycle_turns c t next other p q l = record {
   after = p.after;
   step = rw step_push (or_left (is_step cycle_turns next) (is_step (c ∷ []) next) p.step);
@@ -106,7 +109,8 @@ clear_to cycle_turns t next is clear s l step = go (cases_lt t s)
     go (inr m) = clear s (omega arith) step
 
 -- The next step time is clear too.
-pub clear_more : (cycle_turns : List CycleTurn) (t next : ℕ) → IsNextStepTime cycle_turns t next → HasNoOverloadBelow cycle_turns (t + 1) → turned cycle_turns next ≤ next → HasNoOverloadBelow cycle_turns (next + 1)
+pub clear_more : (cycle_turns : List CycleTurn) (t next : ℕ) → IsNextStepTime cycle_turns t next → HasNoOverloadBelow cycle_turns (t + 1) → turned cycle_turns next ≤ next
+    → HasNoOverloadBelow cycle_turns (next + 1)
 clear_more cycle_turns t next is clear fits s l step = go (cases_lt s next)
   where
     go : (s < next) ⊎ (next ≤ s) → turned cycle_turns s ≤ s
@@ -155,7 +159,8 @@ pub steps_decide : (cycle_turns : List CycleTurn) → AreCycleTurns cycle_turns 
 steps_decide cycle_turns are zero l = let z = turned_zero cycle_turns are in absurd (omega arith)
 steps_decide cycle_turns are (suc t) l = go (is_step cycle_turns (suc t)) refl (λ m. steps_decide cycle_turns are t m)
   where
-    go : (b : Bool) → is_step cycle_turns (suc t) ≡ b → (t < turned cycle_turns t → (s : ℕ) × IsStepTime cycle_turns s × (s ≤ t) × (s < turned cycle_turns s)) → (s : ℕ) × IsStepTime cycle_turns s × (s ≤ suc t) × (s < turned cycle_turns s)
+    go : (b : Bool) → is_step cycle_turns (suc t) ≡ b → (t < turned cycle_turns t → (s : ℕ) × IsStepTime cycle_turns s × (s ≤ t) × (s < turned cycle_turns s))
+        → (s : ℕ) × IsStepTime cycle_turns s × (s ≤ suc t) × (s < turned cycle_turns s)
     go true e ih = (suc t, (omega arith, e), omega arith, l)
     go false e ih = let r = ih (omega (arith, turned_stays cycle_turns are t e)) in (r.0, r.1, omega (arith, r.2), r.3)
 

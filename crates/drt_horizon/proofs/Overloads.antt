@@ -37,7 +37,8 @@ pub is_cycle : (g : Digraph) (a b : ℕ) (cycle : List ℕ) → HasRatio g a b c
 is_cycle g a b [] has l = absurd (omega arith)
 is_cycle g a b (v ∷ vs) has l = has.0
 
-cycle_turns_with : (g : Digraph) (a b : ℕ) (cycle : List ℕ) (cycle_turns : List CycleTurn) → IsSoundGraph g → HasRatio g a b cycle → AreDistinct cycle → AreCycleTurns cycle_turns → AreCycleTurns (with_cycle_turn g cycle cycle_turns)
+cycle_turns_with : (g : Digraph) (a b : ℕ) (cycle : List ℕ) (cycle_turns : List CycleTurn) → IsSoundGraph g → HasRatio g a b cycle → AreDistinct cycle
+    → AreCycleTurns cycle_turns → AreCycleTurns (with_cycle_turn g cycle cycle_turns)
 cycle_turns_with g a b [] cycle_turns sound has distinct are = are
 cycle_turns_with g a b (v ∷ vs) cycle_turns sound has distinct are =
     let sums = cycle_sums g sound (v ∷ vs) has.0 in
@@ -50,13 +51,16 @@ unfolding cycle_turns_of
 are_cycle_turns [] proofs sound given = tt
 are_cycle_turns (g ∷ graphs) [] sound given = absurd given
 are_cycle_turns (g ∷ graphs) (p ∷ proofs) sound given =
-    cycle_turns_with g p.ratio.num p.ratio.den p.cycle (cycle_turns_of graphs proofs) (head_of IsSoundGraph g graphs sound) given.0.greatest.has given.0.greatest.distinct (are_cycle_turns graphs proofs (tail_of IsSoundGraph g graphs sound) given.1)
+    cycle_turns_with g p.ratio.num p.ratio.den p.cycle (cycle_turns_of graphs proofs) (head_of IsSoundGraph g graphs sound) given.0.greatest.has given.0.greatest.distinct
+        (are_cycle_turns graphs proofs (tail_of IsSoundGraph g graphs sound) given.1)
 
 -- In plain numbers: the work of a cycle at the scale is its share of the rate for its span.
 share : (scale a b q w s : ℕ) → b * q ≡ scale → b * w ≡ a * s → scale * w ≡ a * q * s
 share scale a b q w s e f = let g = ap (λ n. q * n) f in rw (← e) (omega arith)
 
-more : (g : Digraph) (a b scale t r : ℕ) (cycle : List ℕ) (cycle_turns : List CycleTurn) → IsSoundGraph g → HasRatio g a b cycle → b ∣ scale → r * t ≤ scale * turned cycle_turns t + scale * cycle_turn_works cycle_turns → (a * (scale / b) + r) * t ≤ scale * turned (with_cycle_turn g cycle cycle_turns) t + scale * cycle_turn_works (with_cycle_turn g cycle cycle_turns)
+more : (g : Digraph) (a b scale t r : ℕ) (cycle : List ℕ) (cycle_turns : List CycleTurn) → IsSoundGraph g → HasRatio g a b cycle → b ∣ scale
+    → r * t ≤ scale * turned cycle_turns t + scale * cycle_turn_works cycle_turns → (a * (scale / b) + r) * t ≤ scale * turned (with_cycle_turn g cycle cycle_turns) t +
+    scale * cycle_turn_works (with_cycle_turn g cycle cycle_turns)
 unfolding turned cycle_turn_works
 more g a b scale t r [] cycle_turns sound has divides l = rw has.0 (omega arith)
 more g a b scale t r (v ∷ vs) cycle_turns sound has divides l =
@@ -65,33 +69,41 @@ more g a b scale t r (v ∷ vs) cycle_turns sound has divides l =
     let o = one scale (work g (v ∷ vs)) (cycle_span g (v ∷ vs)) (a * (scale / b)) t (t / cycle_span g (v ∷ vs)) e (turn_end t (cycle_span g (v ∷ vs)) sums.span_some) in
     omega (arith, o, l)
 
-all : (graphs : List Digraph) (proofs : List RatioProof) (scale t : ℕ) → All IsSoundGraph graphs → AreGiven graphs proofs → EachDivides (fractions_of proofs) scale → rate_at scale proofs * t ≤ scale * turned (cycle_turns_of graphs proofs) t + scale * cycle_turn_works (cycle_turns_of graphs proofs)
+all : (graphs : List Digraph) (proofs : List RatioProof) (scale t : ℕ) → All IsSoundGraph graphs → AreGiven graphs proofs → EachDivides (fractions_of proofs) scale
+    → rate_at scale proofs * t ≤ scale * turned (cycle_turns_of graphs proofs) t + scale * cycle_turn_works (cycle_turns_of graphs proofs)
 unfolding rate cycle_turns_of
 all [] [] scale t sound given divides = omega arith
 all [] (p ∷ proofs) scale t sound given divides = absurd given
 all (g ∷ graphs) [] scale t sound given divides = absurd given
 all (g ∷ graphs) (p ∷ proofs) scale t sound given divides =
-    more g p.ratio.num p.ratio.den scale t (rate_at scale proofs) p.cycle (cycle_turns_of graphs proofs) (head_of IsSoundGraph g graphs sound) given.0.greatest.has divides.0 (all graphs proofs scale t (tail_of IsSoundGraph g graphs sound) given.1 divides.1)
+    more g p.ratio.num p.ratio.den scale t (rate_at scale proofs) p.cycle (cycle_turns_of graphs proofs) (head_of IsSoundGraph g graphs sound) given.0.greatest.has
+        divides.0 (all graphs proofs scale t (tail_of IsSoundGraph g graphs sound) given.1 divides.1)
 
 -- Where the rate is above the scale, whole turns are too much at the latest time.
-cycle_turns_overload : (graphs : List Digraph) (proofs : List RatioProof) (scale : ℕ) → All IsSoundGraph graphs → AreGiven graphs proofs → EachDivides (fractions_of proofs) scale → scale < rate_at scale proofs → latest scale graphs proofs < turned (cycle_turns_of graphs proofs) (latest scale graphs proofs)
+cycle_turns_overload : (graphs : List Digraph) (proofs : List RatioProof) (scale : ℕ) → All IsSoundGraph graphs → AreGiven graphs proofs
+    → EachDivides (fractions_of proofs) scale → scale < rate_at scale proofs → latest scale graphs proofs < turned (cycle_turns_of graphs proofs) (latest scale graphs proofs)
 cycle_turns_overload graphs proofs scale sound given divides over =
     let d : scale + (rate_at scale proofs - scale) ≡ rate_at scale proofs = omega arith in
     let some : 0 < rate_at scale proofs - scale = omega arith in
-    let l : scale * cycle_turn_works (cycle_turns_of graphs proofs) / (rate_at scale proofs - scale) < scale * cycle_turn_works (cycle_turns_of graphs proofs) / (rate_at scale proofs - scale) + 1 = omega arith in
+    let l : scale * cycle_turn_works (cycle_turns_of graphs proofs) / (rate_at scale proofs - scale) < scale * cycle_turn_works (cycle_turns_of graphs proofs) /
+        (rate_at scale proofs - scale) + 1 = omega arith in
     let far = (div-lt_iff_lt-mul some).0 l in
-    plain scale (rate_at scale proofs - scale) (cycle_turn_works (cycle_turns_of graphs proofs)) (latest scale graphs proofs) (turned (cycle_turns_of graphs proofs) (latest scale graphs proofs)) some (rw d (all graphs proofs scale (latest scale graphs proofs) sound given divides)) far
+    plain scale (rate_at scale proofs - scale) (cycle_turn_works (cycle_turns_of graphs proofs)) (latest scale graphs proofs)
+        (turned (cycle_turns_of graphs proofs) (latest scale graphs proofs)) some (rw d (all graphs proofs scale (latest scale graphs proofs) sound given divides)) far
 
 over_at : (graphs : List Digraph) (proofs : List RatioProof) → IsPlannedAboveOne graphs proofs → (scale : ℕ) → IsScale (fractions_of proofs) scale → scale < rate_at scale proofs
 over_at graphs proofs above scale is = rw (scale_same (fractions_of proofs) above.0 scale above.1 is) at above.2.1
 
 -- A step time up to the latest time has too much work.
-pub overload_has_a_time : (graphs : List Digraph) (proofs : List RatioProof) → AreGraphs graphs → AreGiven graphs proofs → IsPlannedAboveOne graphs proofs → (scale : ℕ) → IsScale (fractions_of proofs) scale → (t : ℕ) × IsStepTime (cycle_turns_of graphs proofs) t × (t ≤ latest scale graphs proofs) × (t < turned (cycle_turns_of graphs proofs) t)
+pub overload_has_a_time : (graphs : List Digraph) (proofs : List RatioProof) → AreGraphs graphs → AreGiven graphs proofs → IsPlannedAboveOne graphs proofs → (scale : ℕ)
+    → IsScale (fractions_of proofs) scale → (t : ℕ) × IsStepTime (cycle_turns_of graphs proofs) t × (t ≤ latest scale graphs proofs) × (t < turned (cycle_turns_of graphs proofs) t)
 overload_has_a_time graphs proofs are given above scale is =
-    steps_decide (cycle_turns_of graphs proofs) (are_cycle_turns graphs proofs are.sound given) (latest scale graphs proofs) (cycle_turns_overload graphs proofs scale are.sound given is.multiple (over_at graphs proofs above scale is))
+    steps_decide (cycle_turns_of graphs proofs) (are_cycle_turns graphs proofs are.sound given) (latest scale graphs proofs)
+        (cycle_turns_overload graphs proofs scale are.sound given is.multiple (over_at graphs proofs above scale is))
 
 -- A search with enough steps finds a time.
-pub search_ends : (graphs : List Digraph) (proofs : List RatioProof) → AreGraphs graphs → AreGiven graphs proofs → IsPlannedAboveOne graphs proofs → (scale : ℕ) → IsScale (fractions_of proofs) scale → (budget last : ℕ) → latest scale graphs proofs ≤ budget → IsOverFound (cycle_turns_of graphs proofs) budget (Spent last) → ⊥
+pub search_ends : (graphs : List Digraph) (proofs : List RatioProof) → AreGraphs graphs → AreGiven graphs proofs → IsPlannedAboveOne graphs proofs → (scale : ℕ)
+    → IsScale (fractions_of proofs) scale → (budget last : ℕ) → latest scale graphs proofs ≤ budget → IsOverFound (cycle_turns_of graphs proofs) budget (Spent last) → ⊥
 search_ends graphs proofs are given above scale is budget last enough spent =
     let s = overload_has_a_time graphs proofs are given above scale is in
     let fits = spent.1 s.0 (omega (arith, s.2, spent.2, steps_few (cycle_turns_of graphs proofs) last)) s.1 in

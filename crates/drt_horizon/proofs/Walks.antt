@@ -50,7 +50,8 @@ front_walk g t [] all = ([], tt, work_none g)
 front_walk g t (x ∷ front) all =
     label_walk g t (dbf_at g front t) x (all 0 x (omega arith)) (front_walk g t front (λ k d l. all (suc k) d (omega arith))) (nat_le (x.offset + deadline g x.vertex) t) refl
 
-front_walks : (graphs : List Digraph) (fronts : List (List FrontEntry)) (t : ℕ) → AreWalkFronts graphs fronts → (walks : List (List ℕ)) × AreDue t graphs walks × (efforts_together graphs walks ≡ demands graphs fronts t)
+front_walks : (graphs : List Digraph) (fronts : List (List FrontEntry)) (t : ℕ) → AreWalkFronts graphs fronts → (walks : List (List ℕ)) × AreDue t graphs walks
+    × (efforts_together graphs walks ≡ demands graphs fronts t)
 unfolding efforts_together sum_due
 front_walks [] [] t are = ([], tt, refl)
 front_walks [] (f ∷ fronts) t are = absurd are
@@ -61,7 +62,8 @@ front_walks (g ∷ graphs) (f ∷ fronts) t are =
     (w.0 ∷ r.0, (w.1, r.1), omega (arith, w.2, r.2))
 
 -- A time with too much demand is within the horizon.
-pub demands_within : (graphs : List Digraph) (proofs : List RatioProof) → AreGraphs graphs → AreGiven graphs proofs → (bound : ℕ) → IsHorizonPlan graphs proofs (Ok (Under bound)) → (fronts : List (List FrontEntry)) → AreWalkFronts graphs fronts → (t : ℕ) → t < demands graphs fronts t → t ≤ bound
+pub demands_within : (graphs : List Digraph) (proofs : List RatioProof) → AreGraphs graphs → AreGiven graphs proofs → (bound : ℕ)
+    → IsHorizonPlan graphs proofs (Ok (Under bound)) → (fronts : List (List FrontEntry)) → AreWalkFronts graphs fronts → (t : ℕ) → t < demands graphs fronts t → t ≤ bound
 demands_within graphs proofs are given bound plan fronts is t over =
     let w = front_walks graphs fronts t is in
     horizon_holds graphs proofs are given bound plan t w.0 w.1 (omega (arith, w.2, over))

@@ -73,7 +73,8 @@ module _ {S F : Type 0} (fixed : S → F) (entries : S → ℕ) (key : F) where
   same_words ws i = set-get_or ws i 0
 
   -- while a seat has the lock, no other has
-  alone : (s : State S (SeatView F)) (h : Holds s) (id : ℕ) (v : SeatView F) → get_elem? s.views id ≡ some v → locks v ≡ 1 → (j : ℕ) (u : SeatView F) → j ≢ id → get_elem? s.views j ≡ some u → locks u ≡ 0
+  alone : (s : State S (SeatView F)) (h : Holds s) (id : ℕ) (v : SeatView F) → get_elem? s.views id ≡ some v → locks v ≡ 1 → (j : ℕ) (u : SeatView F) → j ≢ id
+      → get_elem? s.views j ≡ some u → locks u ≡ 0
   alone s h id v me one j u ne at = omega (arith, terms_le locks s.views id j v u ne me at, h.held, h.single)
 
   others_rest : (s : State S (SeatView F)) (h : Holds s) (id : ℕ) (v : SeatView F) → get_elem? s.views id ≡ some v → locks v ≡ 1 → works v ≡ 0 → total works s.views ≡ 0
@@ -224,7 +225,8 @@ module _ {S F : Type 0} (fixed : S → F) (entries : S → ℕ) (key : F) where
   }
 
   -- once one seat has every part, the machine is at home, and its log has the length that the seat counted
-  pub closes : (id : ℕ) (v : SeatView F) (ws : List ℕ) (xs : List S) (z : S) → v.parts ≡ 1024 → v.grip ≡ Away → Final (Seen Holds id v) ws xs → get_elem? xs 0 ≡ some z → (fixed z ≡ key) × (entries z ≡ v.count)
+  pub closes : (id : ℕ) (v : SeatView F) (ws : List ℕ) (xs : List S) (z : S) → v.parts ≡ 1024 → v.grip ≡ Away → Final (Seen Holds id v) ws xs → get_elem? xs 0 ≡ some z
+      → (fixed z ≡ key) × (entries z ≡ v.count)
   closes id v ws xs z whole away fin here =
       let s = fin.0 in let h = fin.1.0 in let me = fin.1.1 in
       let parts_of : SeatView F → ℕ = λ u. u.parts in

@@ -97,7 +97,8 @@ module _ (g : Digraph) (sound : IsSoundGraph g) where
   -- Of the lists of n kinds.
   best_each : (S : ℕ → List ℕ → Type 0) → ((i : ℕ) → HasBest g (S i)) → (n : ℕ) → HasBest g (λ c. (i : ℕ) × (i < n) × S i c)
   best_each S each zero = inl (λ c s of. absurd (let l = s.1 in omega arith))
-  best_each S each (suc n) = best_narrow (λ c. ((i : ℕ) × (i < n) × S i c) ⊎ S n c) (λ c. (i : ℕ) × (i < suc n) × S i c) wide (best_either (λ c. (i : ℕ) × (i < n) × S i c) (S n) (best_each S each n) (each n))
+  best_each S each (suc n) = best_narrow (λ c. ((i : ℕ) × (i < n) × S i c) ⊎ S n c) (λ c. (i : ℕ) × (i < suc n) × S i c) wide
+      (best_either (λ c. (i : ℕ) × (i < n) × S i c) (S n) (best_each S each n) (each n))
     where
       wide : (c : List ℕ) → (i : ℕ) × (i < suc n) × S i c → ((i : ℕ) × (i < n) × S i c) ⊎ S n c
       wide c (i, l, s) = go (cases_lt i n)

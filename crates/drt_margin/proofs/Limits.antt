@@ -50,7 +50,8 @@ task_kept version t v e is l time =
     vertex_kept x = record { name = x.name; wcet = time; deadline = x.deadline }
 
 -- The set keeps its limits.
-pub timed_kept : (version : ℕ) (tasks : List Task) (k v e : ℕ) → IsTaskSet version tasks → k < length tasks → v < vertex_count (graph_at tasks k) → IsTime e → IsTaskSet version (timed_tasks tasks k v e)
+pub timed_kept : (version : ℕ) (tasks : List Task) (k v e : ℕ) → IsTaskSet version tasks → k < length tasks → v < vertex_count (graph_at tasks k) → IsTime e
+    → IsTaskSet version (timed_tasks tasks k v e)
 unfolding timed_tasks
 timed_kept version tasks k v e is l m time =
     let t = timed_task (task_at tasks k) v e in
@@ -83,7 +84,8 @@ plus_most version tasks k v c l m is =
     omega (arith, within.1, timed_wcet tasks k v e l m)
 
 -- And what is at most that may be added.
-pub plus_kept : (version : ℕ) (tasks : List Task) (k v c : ℕ) → IsTaskSet version tasks → k < length tasks → v < vertex_count (graph_at tasks k) → wcet_at tasks k v + c ≤ most_time → IsTaskSet version (plus tasks k v c)
+pub plus_kept : (version : ℕ) (tasks : List Task) (k v c : ℕ) → IsTaskSet version tasks → k < length tasks → v < vertex_count (graph_at tasks k)
+    → wcet_at tasks k v + c ≤ most_time → IsTaskSet version (plus tasks k v c)
 plus_kept version tasks k v c is l m few =
     let some = (wcet_most version tasks k v is l m).0 in
     timed_kept version tasks k v (wcet_at tasks k v + c) is l m (omega arith, few)

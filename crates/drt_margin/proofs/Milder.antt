@@ -44,7 +44,8 @@ milder_task t v e f l m =
     elsewhere c u other = get_or-set_other t.vertices v u (timed (get_or t.vertices v no_vertex) c) no_vertex other
 
     same : (u : ℕ) → (u ≡ v) ⊎ (u ≡ v → ⊥) → deadline (digraph_of (timed_task t v e)) u ≡ deadline (digraph_of (timed_task t v f)) u
-    same u (inl is) = subst (λ w. deadline (digraph_of (timed_task t v e)) w ≡ deadline (digraph_of (timed_task t v f)) w) (sym is) (ap (λ (x : Vertex). x.deadline) (there e) ∙ sym (ap (λ (x : Vertex). x.deadline) (there f)))
+    same u (inl is) = subst (λ w. deadline (digraph_of (timed_task t v e)) w ≡ deadline (digraph_of (timed_task t v f)) w) (sym is)
+        (ap (λ (x : Vertex). x.deadline) (there e) ∙ sym (ap (λ (x : Vertex). x.deadline) (there f)))
     same u (inr other) = ap (λ (x : Vertex). x.deadline) (elsewhere e u other ∙ sym (elsewhere f u other))
 
     less : (u : ℕ) → (u ≡ v) ⊎ (u ≡ v → ⊥) → wcet (digraph_of (timed_task t v e)) u ≤ wcet (digraph_of (timed_task t v f)) u

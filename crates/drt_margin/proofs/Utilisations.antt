@@ -54,7 +54,8 @@ MilderEach [] (h ∷ hs) = ⊥
 MilderEach (g ∷ gs) [] = ⊥
 MilderEach (g ∷ gs) (h ∷ hs) = IsMilder g h × MilderEach gs hs
 
-rates_less : (gs hs : List Digraph) (rs ss : List Fraction) (x y : ℕ) → MilderEach gs hs → All IsSoundGraph gs → AreRatios gs rs → AreRatios hs ss → EachDivides rs x → EachDivides ss y → rate x rs * y ≤ rate y ss * x
+rates_less : (gs hs : List Digraph) (rs ss : List Fraction) (x y : ℕ) → MilderEach gs hs → All IsSoundGraph gs → AreRatios gs rs → AreRatios hs ss → EachDivides rs x
+    → EachDivides ss y → rate x rs * y ≤ rate y ss * x
 unfolding rate
 rates_less [] [] [] [] x y m sound p q e f = omega arith
 rates_less [] [] [] (s ∷ ss) x y m sound p q e f = absurd q
@@ -78,12 +79,14 @@ milder_each (s ∷ fast) [] e each = absurd (omega arith)
 milder_each (s ∷ fast) (t ∷ slow) e each = (each 0, milder_each fast slow (omega arith) (λ i. each (suc i)))
 
 -- The rate of milder tasks, at the scale of the others, is at most that of the others at its scale.
-pub rate_less : (fast slow : List Task) → AreMilder fast slow → All IsSoundGraph (graphs_of fast) → (r : Rates fast) (s : Rates slow) → rate r.scale r.ratios * s.scale ≤ rate s.scale s.ratios * r.scale
+pub rate_less : (fast slow : List Task) → AreMilder fast slow → All IsSoundGraph (graphs_of fast) → (r : Rates fast) (s : Rates slow)
+    → rate r.scale r.ratios * s.scale ≤ rate s.scale s.ratios * r.scale
 rate_less fast slow m sound r s =
     rates_less (graphs_of fast) (graphs_of slow) r.ratios s.ratios r.scale s.scale (milder_each fast slow m.count m.graphs) sound r.are s.are r.is_scale.multiple s.is_scale.multiple
 
 -- So the utilisation of milder tasks is below one where that of the others is.
-pub below_less : (fast slow : List Task) → AreMilder fast slow → All IsSoundGraph (graphs_of fast) → (r : Rates fast) (s : Rates slow) → rate s.scale s.ratios < s.scale → rate r.scale r.ratios < r.scale
+pub below_less : (fast slow : List Task) → AreMilder fast slow → All IsSoundGraph (graphs_of fast) → (r : Rates fast) (s : Rates slow) → rate s.scale s.ratios < s.scale
+    → rate r.scale r.ratios < r.scale
 below_less fast slow m sound r s below = plain (rate r.scale r.ratios) r.scale (rate s.scale s.ratios) s.scale r.is_scale.some (rate_less fast slow m sound r s) below
   where
     plain : (a x b y : ℕ) → 1 ≤ x → a * y ≤ b * x → b < y → a < x

@@ -135,7 +135,8 @@ fn ask_apart<G: Gate, R: Threads + Wait + Sync>(
     requires asked { IsAsked set.now question }
     requires numbers { AreAskable set.now question numbers.now }
     requires few { length numbers.now ≤ 15 }
-    ensures { IfOk result (λ found. (i : ℕ) (finding : Found) → slice_index_or found.items i None ≡ Some finding → IsFinding question.policy (plus_set set.now question.task question.vertex (slice_index numbers.now i)) crew.now.effort.budget finding) }
+    ensures { IfOk result (λ found. (i : ℕ) (finding : Found) → slice_index_or found.items i None ≡ Some finding
+        → IsFinding question.policy (plus_set set.now question.task question.vertex (slice_index numbers.now i)) crew.now.effort.budget finding) }
 {
     let alone = Crew {
         rt: crew.rt,

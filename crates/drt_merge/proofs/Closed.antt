@@ -18,11 +18,13 @@ first_due g constrained v (x ∷ vs) l is =
     rw span_cons (omega (arith, c, k.3))
 
 -- What a closed front says of an entry of it.
-entry_closed : (g : Digraph) (bound : ℕ) (front : List FrontEntry) → IsClosedFront bound g front → (i : ℕ) (e : FrontEntry) → i < length front → get_or front i e ≡ e → (k : ℕ) → k < out_degree g e.vertex → IsExtended bound g front e k
+entry_closed : (g : Digraph) (bound : ℕ) (front : List FrontEntry) → IsClosedFront bound g front → (i : ℕ) (e : FrontEntry) → i < length front → get_or front i e ≡ e
+    → (k : ℕ) → k < out_degree g e.vertex → IsExtended bound g front e k
 entry_closed g bound front closed i e l at = subst (λ x. (k : ℕ) → k < out_degree g x.vertex → IsExtended bound g front x k) at (closed i e l)
 
 -- An edge that leads on from a covered walk gives a covered walk, where it is due within the bound.
-extended : (g : Digraph) (bound : ℕ) (front : List FrontEntry) → IsClosedFront bound g front → (v o w x : ℕ) → IsEdge g v x → Any (Covers v o w) front → o + gap g v x + deadline g x ≤ bound → Any (Covers x (o + gap g v x) (w + wcet g x)) front
+extended : (g : Digraph) (bound : ℕ) (front : List FrontEntry) → IsClosedFront bound g front → (v o w x : ℕ) → IsEdge g v x → Any (Covers v o w) front
+    → o + gap g v x + deadline g x ≤ bound → Any (Covers x (o + gap g v x) (w + wcet g x)) front
 extended g bound front closed v o w x edge (i, e, l, at, (same, by, most)) near =
     let sep : gap g e.vertex x ≡ gap g v x = ap (λ u. gap g u x) same in
     let k = edge_of_sep g e.vertex x (gap g e.vertex x) (rw same edge) in
@@ -37,7 +39,8 @@ extended g bound front closed v o w x edge (i, e, l, at, (same, by, most)) near 
         (j, f, m, there, (vertex ∙ to, omega (arith, offset, sep, by), omega (arith, works, c, most)))
 
 -- From a covered walk to v on: the rest of a walk leads to an entry that covers the whole.
-covered_from : (g : Digraph) → IsSoundGraph g → IsConstrainedGraph g → (bound : ℕ) (front : List FrontEntry) → IsClosedFront bound g front → (v o w : ℕ) (vs : List ℕ) → IsPath g v vs → Any (Covers v o w) front → o + (span g v vs + deadline g (last_of v vs)) ≤ bound → Any (Covers (last_of v vs) (o + span g v vs) (w + work g vs)) front
+covered_from : (g : Digraph) → IsSoundGraph g → IsConstrainedGraph g → (bound : ℕ) (front : List FrontEntry) → IsClosedFront bound g front → (v o w : ℕ) (vs : List ℕ)
+    → IsPath g v vs → Any (Covers v o w) front → o + (span g v vs + deadline g (last_of v vs)) ≤ bound → Any (Covers (last_of v vs) (o + span g v vs) (w + work g vs)) front
 covered_from g sound constrained bound front closed v o w [] is (i, e, l, at, (same, by, most)) near =
     (i, e, l, at, (same, rw span_none (omega (arith, by)), rw work_none (omega (arith, most))))
 covered_from g sound constrained bound front closed v o w (x ∷ vs) is covered near =
@@ -50,7 +53,8 @@ covered_from g sound constrained bound front closed v o w (x ∷ vs) is covered 
     (i, e, l, at, (same, omega (arith, by, s), omega (arith, most, c)))
 
 -- Each walk that is due within the bound is covered.
-pub covered : (g : Digraph) → IsSoundGraph g → IsConstrainedGraph g → (bound : ℕ) (front : List FrontEntry) → HasOpenings bound g front → IsClosedFront bound g front → (u : ℕ) (vs : List ℕ) → u < vertex_count g → IsPath g u vs → span g u vs + deadline g (last_of u vs) ≤ bound → Any (Covers (last_of u vs) (span g u vs) (work g (u ∷ vs))) front
+pub covered : (g : Digraph) → IsSoundGraph g → IsConstrainedGraph g → (bound : ℕ) (front : List FrontEntry) → HasOpenings bound g front → IsClosedFront bound g front
+    → (u : ℕ) (vs : List ℕ) → u < vertex_count g → IsPath g u vs → span g u vs + deadline g (last_of u vs) ≤ bound → Any (Covers (last_of u vs) (span g u vs) (work g (u ∷ vs))) front
 covered g sound constrained bound front openings closed u vs inside is near =
     let d = first_due g constrained u vs inside is in
     let opening = openings u inside (omega (arith, d, near)) in

@@ -31,7 +31,8 @@ each_more P marks m all here i lt = dite (dec_lt i (length marks))
     (λ nl. let n = length-append marks (m ∷ []) in let e : length marks ≡ i = omega (arith, n, lt) in subst P (sym (mark_new marks m i e)) here)
 
 -- Rising numbers still rise.
-rises_more : (f : Mark → ℕ) (marks : List Mark) (m : Mark) → ((i j : ℕ) → i < j → j < length marks → f (mark_at marks i) < f (mark_at marks j)) → ((i : ℕ) → i < length marks → f (mark_at marks i) < f m)
+rises_more : (f : Mark → ℕ) (marks : List Mark) (m : Mark) → ((i j : ℕ) → i < j → j < length marks → f (mark_at marks i) < f (mark_at marks j))
+    → ((i : ℕ) → i < length marks → f (mark_at marks i) < f m)
     → (i j : ℕ) → i < j → j < length (marks ++ m ∷ []) → f (mark_at (marks ++ m ∷ []) i) < f (mark_at (marks ++ m ∷ []) j)
 rises_more f marks m rise below i j lt within =
     let n = length-append marks (m ∷ []) in
@@ -42,7 +43,8 @@ rises_more f marks m rise below i j lt within =
     (λ nl. let e : length marks ≡ j = omega (arith, n, within) in let ej = ap f (mark_new marks m j e) in let r = below i li in omega (arith, ei, ej, r))
 
 -- A row with one more mark.
-pub row_more : (g : Digraph) (bound v : ℕ) (marks : List Mark) (m : Mark) → IsMarkRow g bound v marks → IsWalkEntry g bound (entry_of v m) → IsSmallMark m → ((i : ℕ) → i < length marks → IsMarkBelow (mark_at marks i) m)
+pub row_more : (g : Digraph) (bound v : ℕ) (marks : List Mark) (m : Mark) → IsMarkRow g bound v marks → IsWalkEntry g bound (entry_of v m) → IsSmallMark m
+    → ((i : ℕ) → i < length marks → IsMarkBelow (mark_at marks i) m)
     → IsMarkRow g bound v (marks ++ m ∷ [])
 row_more g bound v marks m is walk small below = record {
   walks = each_more (λ x. IsWalkEntry g bound (entry_of v x)) marks m is.walks walk;
@@ -94,7 +96,8 @@ covers_new marks m =
     record { place = length marks; there = omega (arith, n); over = (omega (arith, o), omega (arith, w)) }
 
 -- The last mark is above each.
-pub last_most : (g : Digraph) (bound v : ℕ) (marks : List Mark) (l m : Mark) → IsMarkRow g bound v marks → IsLastMark marks (Some l) → l.offset < m.offset → l.work < m.work → (i : ℕ) → i < length marks → IsMarkBelow (mark_at marks i) m
+pub last_most : (g : Digraph) (bound v : ℕ) (marks : List Mark) (l m : Mark) → IsMarkRow g bound v marks → IsLastMark marks (Some l) → l.offset < m.offset
+    → l.work < m.work → (i : ℕ) → i < length marks → IsMarkBelow (mark_at marks i) m
 last_most g bound v marks l m is last lo lw i lt =
     let n = last.1 in
     let o : l.offset ≡ (mark_at marks last.0).offset = ap (λ x. x.offset) last.2 in

@@ -46,15 +46,18 @@ taken_more arcs lists cursors k to are lk le covered =
     }
 
 -- Merging goes on.
-pub merging_grown : (g : Digraph) (bound : ℕ) (arcs : List Arc) (old new : List (List Mark)) (cursors : List ℕ) → AreRows g bound new → AreMarksGrown old new → IsMerging g bound arcs old cursors → IsMerging g bound arcs new cursors
-merging_grown g bound arcs old new cursors rows grown is = record { rows = rows; opened = opened_grown g bound (vertex_count g) old new grown is.opened; taken = taken_grown arcs old new cursors grown is.taken }
+pub merging_grown : (g : Digraph) (bound : ℕ) (arcs : List Arc) (old new : List (List Mark)) (cursors : List ℕ) → AreRows g bound new → AreMarksGrown old new
+    → IsMerging g bound arcs old cursors → IsMerging g bound arcs new cursors
+merging_grown g bound arcs old new cursors rows grown is = record
+    { rows = rows; opened = opened_grown g bound (vertex_count g) old new grown is.opened; taken = taken_grown arcs old new cursors grown is.taken }
 
 pub merging_more : (g : Digraph) (bound : ℕ) (arcs : List Arc) (lists : List (List Mark)) (cursors : List ℕ) (k to : ℕ) → IsMerging g bound arcs lists cursors → k < length arcs
     → to ≤ length (row lists (arc_at arcs k).source) → AreCoveredFrom lists (arc_at arcs k) (slice_index cursors k) to → IsMerging g bound arcs lists (slice_set cursors k to)
 merging_more g bound arcs lists cursors k to is lk le covered = record { rows = is.rows; opened = is.opened; taken = taken_more arcs lists cursors k to is.taken lk le covered }
 
 -- Where no arc has a candidate, the lists are merged.
-pub merged_of : (g : Digraph) (bound : ℕ) (arcs : List Arc) (lists : List (List Mark)) (cursors : List ℕ) → AreArcs g arcs → IsMerging g bound arcs lists cursors → AreSpentTo bound arcs lists cursors (length arcs)
+pub merged_of : (g : Digraph) (bound : ℕ) (arcs : List Arc) (lists : List (List Mark)) (cursors : List ℕ) → AreArcs g arcs → IsMerging g bound arcs lists cursors
+    → AreSpentTo bound arcs lists cursors (length arcs)
     → AreMerged g bound lists
 merged_of g bound arcs lists cursors are is spent = record { rows = is.rows; opened = is.opened; closed = closed }
   where
@@ -76,14 +79,16 @@ merged_of g bound arcs lists cursors are is spent = record { rows = is.rows; ope
         past k e r late (inl le) =
             let s : length (row lists (arc_at arcs k).source) ≡ length (row lists v) = ap (λ a. length (row lists a.source)) e in absurd (late (omega (arith, le, s, li)))
         past k e r late (inr far) =
-            let s : (mark_at (row lists (arc_at arcs k).source) (slice_index cursors k)).offset ≡ (mark_at (row lists v) (slice_index cursors k)).offset = ap (λ a. (mark_at (row lists a.source) (slice_index cursors k)).offset) e in
+            let s : (mark_at (row lists (arc_at arcs k).source) (slice_index cursors k)).offset ≡ (mark_at (row lists v) (slice_index cursors k)).offset = ap
+                (λ a. (mark_at (row lists a.source) (slice_index cursors k)).offset) e in
             dite (dec_lt (slice_index cursors k) i)
             (λ l. let o = r.offsets (slice_index cursors k) i l li in omega (arith, far, s, o))
             (λ nl. let same : slice_index cursors k ≡ i = omega (arith, late) in
             let o : (mark_at (row lists v) (slice_index cursors k)).offset ≡ (mark_at (row lists v) i).offset = ap (λ z. (mark_at (row lists v) z).offset) same in omega (arith, far, s, o))
 
 -- The candidate of an arc is covered once it is offered: the arc's cursor passes it.
-pub step_more : (g : Digraph) (bound : ℕ) (arcs : List Arc) (old new : List (List Mark)) (cursors : List ℕ) (k place : ℕ) (m : Mark) → AreRows g bound new → AreMarksGrown old new → IsMerging g bound arcs old cursors
+pub step_more : (g : Digraph) (bound : ℕ) (arcs : List Arc) (old new : List (List Mark)) (cursors : List ℕ) (k place : ℕ) (m : Mark) → AreRows g bound new
+    → AreMarksGrown old new → IsMerging g bound arcs old cursors
     → k < length arcs → slice_index cursors k ≡ place → place < length (row old (arc_at arcs k).source) → m ≡ extended (arc_at arcs k) (mark_at (row old (arc_at arcs k).source) place)
     → IsCovered (row new (arc_at arcs k).target) m → IsMerging g bound arcs new (slice_set cursors k (place + 1))
 step_more g bound arcs old new cursors k place m rows grown is lk at lp same covered =

@@ -52,7 +52,8 @@ module _ (g : Digraph) (sound : IsSoundGraph g) where
   target_within a is = let t = ap (λ (z : Arc). z.target) is.is in let l = sound.to a.source is.number is.vertex is.edge in omega (arith, t, l)
 
   -- The same for an arc.
-  pub walk_arc : (bound : ℕ) (a : Arc) (m : Mark) → IsArc g a → IsWalkEntry g bound (entry_of a.source m) → m.offset + a.sep + a.deadline ≤ bound → IsWalkEntry g bound (entry_of a.target (extended a m))
+  pub walk_arc : (bound : ℕ) (a : Arc) (m : Mark) → IsArc g a → IsWalkEntry g bound (entry_of a.source m) → m.offset + a.sep + a.deadline ≤ bound
+      → IsWalkEntry g bound (entry_of a.target (extended a m))
   walk_arc bound a m is walk near = subst (λ z. IsWalkEntry g bound (entry_of z.target (extended z m))) (sym is.is) (go a.source is.number is.vertex is.edge walk due)
     where
       due : m.offset + (arc_of g a.source is.number).sep + (arc_of g a.source is.number).deadline ≤ bound

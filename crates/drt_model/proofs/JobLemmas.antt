@@ -27,7 +27,8 @@ pub record Known (tasks : List Task) (r : Release) : Type 0 where
   pub some_need : 1 ≤ r.need
   pub need : r.need ≤ vertex.wcet
 
-known_vertex : (tasks : List Task) (r : Release) (t : Task) (o : Option Vertex) → slice_get tasks r.task ≡ Some t → slice_get t.vertices r.vertex ≡ o → IsSomeAnd o (λ v. (1 ≤ r.need) × (r.need ≤ v.wcet)) → Known tasks r
+known_vertex : (tasks : List Task) (r : Release) (t : Task) (o : Option Vertex) → slice_get tasks r.task ≡ Some t → slice_get t.vertices r.vertex ≡ o
+    → IsSomeAnd o (λ v. (1 ≤ r.need) × (r.need ≤ v.wcet)) → Known tasks r
 known_vertex tasks r t None e f h = absurd h
 known_vertex tasks r t (Some v) e f h = record { task = t; vertex = v; is_task = e; is_vertex = f; some_need = h.0; need = h.1 }
 

@@ -86,7 +86,8 @@ module _ (tasks : List Task) where
         elim (cases_eq r.task n) [
           | inr ne ↦ rw (part-other n r (s ∷ rs) ne) later
           | inl e ↦ rw (part-same n r (s ∷ rs) e) (elim (cases_eq s.task n) [
-            | inl f ↦ rw (part-same n s rs f) (AllNeighbours-cons (Follows t) r s (part_of n rs) (step_here r s e f (AllNeighbours-head (IsAllowedStep tasks) r s rs a)) (rw (part-same n s rs f) at later))
+            | inl f ↦ rw (part-same n s rs f)
+                (AllNeighbours-cons (Follows t) r s (part_of n rs) (step_here r s e f (AllNeighbours-head (IsAllowedStep tasks) r s rs a)) (rw (part-same n s rs f) at later))
             | inr nf ↦ rw (part-later n s rs (omega (arith, nf)) order_later) (AllNeighbours-one (Follows t) r)
           ])
         ]

@@ -108,9 +108,11 @@ module _ (policy : Policy) (jobs : List Job) where
   done-idle n j e = done-suc j n ∙ ap (λ o. done policy jobs j n + cond (is_pick_of j o) 1 0) e ∙ omega arith
 
   -- a job has a tick more after its own tick, and as many after another
-  pub done_cases : (n j : ℕ) → ((pick policy jobs n ≡ Some j) × (done policy jobs j (suc n) ≡ done policy jobs j n + 1)) ⊎ ((pick policy jobs n ≡ Some j → ⊥) × (done policy jobs j (suc n) ≡ done policy jobs j n))
+  pub done_cases : (n j : ℕ) → ((pick policy jobs n ≡ Some j) × (done policy jobs j (suc n) ≡ done policy jobs j n + 1)) ⊎
+      ((pick policy jobs n ≡ Some j → ⊥) × (done policy jobs j (suc n) ≡ done policy jobs j n))
   done_cases n j = cases_of (pick policy jobs n) refl where
-    cases_of : (o : Option ℕ) → pick policy jobs n ≡ o → ((pick policy jobs n ≡ Some j) × (done policy jobs j (suc n) ≡ done policy jobs j n + 1)) ⊎ ((pick policy jobs n ≡ Some j → ⊥) × (done policy jobs j (suc n) ≡ done policy jobs j n))
+    cases_of : (o : Option ℕ) → pick policy jobs n ≡ o → ((pick policy jobs n ≡ Some j) × (done policy jobs j (suc n) ≡ done policy jobs j n + 1)) ⊎
+        ((pick policy jobs n ≡ Some j → ⊥) × (done policy jobs j (suc n) ≡ done policy jobs j n))
     cases_of None e = inr ((λ f. cc), done-idle n j e)
     cases_of (Some k) e = elim (cases_eq k j) [
       | inl s ↦ (let f = e ∙ ap Some s in inl (f, done-picked n j f))

@@ -32,7 +32,8 @@ module _ (policy : Policy) (jobs : List Job) (picks : List (Option ℕ)) where
   best_from-all = let e : length jobs - 0 ≡ length jobs = omega arith in rw e
 
   -- the same, one job down
-  pub best_down-pending : (i : ℕ) → 0 < i → i ≤ length jobs → is_pending jobs picks (i - 1) ≡ true → best_from policy jobs picks (i - 1) ≡ Some (better policy jobs (i - 1) (best_from policy jobs picks i))
+  pub best_down-pending : (i : ℕ) → 0 < i → i ≤ length jobs → is_pending jobs picks (i - 1) ≡ true
+      → best_from policy jobs picks (i - 1) ≡ Some (better policy jobs (i - 1) (best_from policy jobs picks i))
   best_down-pending i z h t = let e : i - 1 + 1 ≡ i = omega arith in rw e at (best_from-pending (i - 1) (omega arith) t)
 
   pub best_down-other : (i : ℕ) → 0 < i → i ≤ length jobs → is_pending jobs picks (i - 1) ≡ false → best_from policy jobs picks (i - 1) ≡ best_from policy jobs picks i

@@ -85,7 +85,8 @@ module _ (policy : Policy) (jobs : List Job) where
       e ∙ ap Some (ahead_one k j (pick_ahead n k j e h) (f k (pick_pending policy jobs n k e)))
 
   -- the next tick runs the same job, unless it is done or a job is released
-  pub pick_stays : (n j : ℕ) → pick policy jobs n ≡ Some j → done policy jobs j n + 1 < (job_at jobs j).need → ((k : ℕ) → k < length jobs → (job_at jobs k).time ≡ suc n → ⊥) → pick policy jobs (suc n) ≡ Some j
+  pub pick_stays : (n j : ℕ) → pick policy jobs n ≡ Some j → done policy jobs j n + 1 < (job_at jobs j).need
+      → ((k : ℕ) → k < length jobs → (job_at jobs k).time ≡ suc n → ⊥) → pick policy jobs (suc n) ≡ Some j
   pick_stays n j e left quiet =
       let p = pick_pending policy jobs n j e in
       pick_is (suc n) j (record { released = omega (arith, p.released); lacks = omega (arith, done-picked policy jobs n j e) })

@@ -27,7 +27,8 @@ some : {g : Digraph} {a b n : ℕ} {levels : List Level} {hs : List ℤ} → End
 some e = omega (arith, e.sound.some, e.size)
 
 -- The ratio, the cycle and the potentials are those of the graph.
-pub ratio_proof : (g : Digraph) (a b n : ℕ) (levels : List Level) (cycle : List ℕ) (hs : List ℤ) → Ended g a b n levels hs → IsGcd a b 1 → HasRatio g a b cycle → AreDistinct cycle → IsRatioProof g a b cycle hs
+pub ratio_proof : (g : Digraph) (a b n : ℕ) (levels : List Level) (cycle : List ℕ) (hs : List ℤ) → Ended g a b n levels hs → IsGcd a b 1 → HasRatio g a b cycle
+    → AreDistinct cycle → IsRatioProof g a b cycle hs
 ratio_proof g a b n levels cycle hs e lowest has distinct = record {
   lowest = lowest;
   least = settled_least g a b levels n e.sound e.tower e.count e.size (some e) e.settled;

@@ -23,7 +23,9 @@ parts : (a b h most w1 w2 w3 s1 s2 s3 : ℕ) → b * (w1 + (w2 + w3)) ≡ h + a 
 parts a b h most w1 w2 w3 s1 s2 s3 e l m = omega arith
 
 -- The loop cs of a walk gains where the walk without it gains less.
-pub loop_gains : (g : Digraph) (a b n v h most u : ℕ) (xs cs ys : List ℕ) → IsPath g u (xs ++ (cs ++ ys)) → last_of u (xs ++ (cs ++ ys)) ≡ v → b * work g (xs ++ (cs ++ ys)) ≡ h + a * span g u (xs ++ (cs ++ ys)) → most < h → IsMost g a b n v most → length (xs ++ ys) < n → last_of (last_of u xs) cs ≡ last_of u xs → IsPath g (last_of u xs) cs × (a * span g (last_of u xs) cs < b * work g cs)
+pub loop_gains : (g : Digraph) (a b n v h most u : ℕ) (xs cs ys : List ℕ) → IsPath g u (xs ++ (cs ++ ys)) → last_of u (xs ++ (cs ++ ys)) ≡ v
+    → b * work g (xs ++ (cs ++ ys)) ≡ h + a * span g u (xs ++ (cs ++ ys)) → most < h → IsMost g a b n v most → length (xs ++ ys) < n
+    → last_of (last_of u xs) cs ≡ last_of u xs → IsPath g (last_of u xs) cs × (a * span g (last_of u xs) cs < b * work g cs)
 loop_gains g a b n v h most u xs cs ys path end sum more is short back =
     let rest = path_rest g u xs (cs ++ ys) path in
     let round = path_first g (last_of u xs) cs ys rest in
@@ -81,7 +83,8 @@ round_edge g a b low high sound round u v edge =
     let done = round.done u k.0 (source_of g sound u v (gap g u v) edge) k.1 in
     rw (k.2, k.3) at done
 
-keeps_up : (g : Digraph) (a b : ℕ) (levels : List Level) (v : ℕ) → v < vertex_count g → IsTower g a b levels → (j k : ℕ) → j + k < length levels → height (level_of levels j) v ≤ height (level_of levels (j + k)) v
+keeps_up : (g : Digraph) (a b : ℕ) (levels : List Level) (v : ℕ) → v < vertex_count g → IsTower g a b levels → (j k : ℕ) → j + k < length levels
+    → height (level_of levels j) v ≤ height (level_of levels (j + k)) v
 keeps_up g a b levels v l tower j zero m = let e : j + 0 ≡ j = omega arith in rw e (omega arith)
 keeps_up g a b levels v l tower j (suc k) m =
     let e : j + suc k ≡ (j + k) + 1 = omega arith in
@@ -89,10 +92,12 @@ keeps_up g a b levels v l tower j (suc k) m =
     rw e (omega (arith, up, keeps_up g a b levels v l tower j k (omega arith)))
 
 -- The last level but one has the most that a walk of few edges gains.
-pub tower_most : (g : Digraph) (a b : ℕ) (levels : List Level) (n v : ℕ) → IsSoundGraph g → IsTower g a b levels → length levels ≡ n + 1 → v < vertex_count g → IsMost g a b n v (height (level_of levels (n - 1)) v)
+pub tower_most : (g : Digraph) (a b : ℕ) (levels : List Level) (n v : ℕ) → IsSoundGraph g → IsTower g a b levels → length levels ≡ n + 1 → v < vertex_count g
+    → IsMost g a b n v (height (level_of levels (n - 1)) v)
 tower_most g a b levels n v sound tower count l = record {
   each = λ u vs path end short.
-      let h : height (level_of levels 0) u + b * work g vs ≤ height (level_of levels (0 + length vs)) (last_of u vs) + a * span g u vs = climbs_path g a b n (λ k w. height (level_of levels k) w) (λ k u w m edge. climbs k u w m edge) 0 u vs (omega arith) path in
+      let h : height (level_of levels 0) u + b * work g vs ≤ height (level_of levels (0 + length vs)) (last_of u vs) + a * span g u vs = climbs_path g a b n
+          (λ k w. height (level_of levels k) w) (λ k u w m edge. climbs k u w m edge) 0 u vs (omega arith) path in
       let z : 0 + length vs ≡ length vs = omega arith in
       let up : height (level_of levels (length vs)) v ≤ height (level_of levels (length vs + (n - 1 - length vs))) v = keeps_up g a b levels v l tower (length vs) (n - 1 - length vs) (omega arith) in
       let top : length vs + (n - 1 - length vs) ≡ n - 1 = omega arith in
@@ -102,7 +107,8 @@ tower_most g a b levels n v sound tower count l = record {
     climbs : (k u w : ℕ) → k < n → IsEdge g u w → height (level_of levels k) u + b * wcet g w ≤ height (level_of levels (suc k)) w + a * gap g u w
     climbs k u w m edge = let e : k + 1 ≡ suc k = omega arith in rw e at (round_edge g a b (level_of levels k) (level_of levels (k + 1)) sound (tower.rounds k (omega arith)) u w edge)
 
-    ends : (u : ℕ) (vs : List ℕ) → height (level_of levels 0) u + b * work g vs ≤ height (level_of levels (length vs)) v + a * span g u vs → height (level_of levels (length vs)) v ≤ height (level_of levels (n - 1)) v → b * work g vs ≤ height (level_of levels (n - 1)) v + a * span g u vs
+    ends : (u : ℕ) (vs : List ℕ) → height (level_of levels 0) u + b * work g vs ≤ height (level_of levels (length vs)) v + a * span g u vs
+        → height (level_of levels (length vs)) v ≤ height (level_of levels (n - 1)) v → b * work g vs ≤ height (level_of levels (n - 1)) v + a * span g u vs
     ends u vs h up = omega arith
 
 close : (g : Digraph) (a b w : ℕ) (cs : List ℕ) → 0 < length cs → IsPath g w cs → last_of w cs ≡ w → a * span g w cs < b * work g cs → IsCycle g cs × (a * cycle_span g cs < b * work g cs)
@@ -121,11 +127,14 @@ two_takes (suc i) m [] = take_none m ∙ sym (take_none (suc i + m))
 two_takes (suc i) m (v ∷ vs) = let e : suc i + m ≡ suc (i + m) = omega arith in rw e (ap (λ ys. v ∷ ys) (two_takes i m vs))
 
 -- The loop of a walk between two places with the same vertex.
-pub loop_found : (g : Digraph) (a b n v h most u i m : ℕ) (vs : List ℕ) → IsPath g u vs → last_of u vs ≡ v → length vs ≤ n → b * work g vs ≡ h + a * span g u vs → most < h → IsMost g a b n v most → 0 < m → i + m ≤ length vs → get_or (u ∷ vs) i 0 ≡ get_or (u ∷ vs) (i + m) 0 → IsCycle g (take m (drop i vs)) × (a * cycle_span g (take m (drop i vs)) < b * work g (take m (drop i vs)))
+pub loop_found : (g : Digraph) (a b n v h most u i m : ℕ) (vs : List ℕ) → IsPath g u vs → last_of u vs ≡ v → length vs ≤ n → b * work g vs ≡ h + a * span g u vs
+    → most < h → IsMost g a b n v most → 0 < m → i + m ≤ length vs → get_or (u ∷ vs) i 0 ≡ get_or (u ∷ vs) (i + m) 0 → IsCycle g (take m (drop i vs))
+    × (a * cycle_span g (take m (drop i vs)) < b * work g (take m (drop i vs)))
 loop_found g a b n v h most u i m vs path end short sum more is some l same =
     let e = in_parts vs i m in
     let first = last_take u vs i (omega arith) in
-    let back : last_of (last_of u (take i vs)) (take m (drop i vs)) ≡ last_of u (take i vs) = sym (last_both u (take i vs) (take m (drop i vs))) ∙ ap (last_of u) (two_takes i m vs) ∙ last_take u vs (i + m) l ∙ sym same ∙ sym first in
+    let back : last_of (last_of u (take i vs)) (take m (drop i vs)) ≡ last_of u (take i vs) = sym (last_both u (take i vs) (take m (drop i vs)))
+        ∙ ap (last_of u) (two_takes i m vs) ∙ last_take u vs (i + m) l ∙ sym same ∙ sym first in
     let few : length (take i vs ++ drop m (drop i vs)) < n = simp (length-append, length-take, length-drop) (omega arith) in
     let r = loop_gains g a b n v h most u (take i vs) (take m (drop i vs)) (drop m (drop i vs)) (rw e path) (rw e end) (rw e sum) more is few back in
     let size : 0 < length (take m (drop i vs)) = simp (length-take, length-drop) (omega arith) in
@@ -134,7 +143,8 @@ loop_found g a b n v h most u i m vs path end short sum more is some l same =
 loop_at : (u i m p : ℕ) (vs : List ℕ) → p < m → get_or (take m (drop i vs)) p 0 ≡ get_or (u ∷ vs) (suc (i + p)) 0
 loop_at u i m p vs l = get_or-take m (drop i vs) p 0 l ∙ get_or-drop i vs p 0
 
-pub loop_distinct : (u i m : ℕ) (vs : List ℕ) → i + m ≤ length vs → get_or (u ∷ vs) i 0 ≡ get_or (u ∷ vs) (i + m) 0 → ((p q : ℕ) → p < q → q < i + m → get_or (u ∷ vs) p 0 ≢ get_or (u ∷ vs) q 0) → AreDistinct (take m (drop i vs))
+pub loop_distinct : (u i m : ℕ) (vs : List ℕ) → i + m ≤ length vs → get_or (u ∷ vs) i 0 ≡ get_or (u ∷ vs) (i + m) 0
+    → ((p q : ℕ) → p < q → q < i + m → get_or (u ∷ vs) p 0 ≢ get_or (u ∷ vs) q 0) → AreDistinct (take m (drop i vs))
 loop_distinct u i m vs l same differ p q before within e =
     let size : length (take m (drop i vs)) ≡ m = simp (length-take, length-drop) (omega arith) in
     let f : get_or (u ∷ vs) (suc (i + p)) 0 ≡ get_or (u ∷ vs) (suc (i + q)) 0 = sym (loop_at u i m p vs (omega arith)) ∙ e ∙ loop_at u i m q vs (omega arith) in
@@ -147,8 +157,10 @@ loop_distinct u i m vs l same differ p q before within e =
         differ i (suc (i + p)) (omega arith) (omega arith) (same ∙ sym (ap (λ k. get_or (u ∷ vs) k 0) at) ∙ sym f)
 
 -- The cycle that the first repeat of the walk shows.
-pub gain_found : (g : Digraph) (a b : ℕ) (levels : List Level) (n v i j : ℕ) (walk : List ℕ) → IsSoundGraph g → IsTower g a b levels → length levels ≡ n + 1 → n ≡ vertex_count g → 0 < n → v < vertex_count g →
-    (height (level_of levels n) v ≡ height (level_of levels (n - 1)) v → ⊥) → IsTrace g a b n v (height (level_of levels n) v) walk → IsRepeat walk i j → IsGain g a b (take (j + 1 - (i + 1)) (drop (i + 1) walk))
+pub gain_found : (g : Digraph) (a b : ℕ) (levels : List Level) (n v i j : ℕ) (walk : List ℕ) → IsSoundGraph g → IsTower g a b levels → length levels ≡ n + 1
+    → n ≡ vertex_count g → 0 < n → v < vertex_count g →
+    (height (level_of levels n) v ≡ height (level_of levels (n - 1)) v → ⊥) → IsTrace g a b n v (height (level_of levels n) v) walk → IsRepeat walk i j
+        → IsGain g a b (take (j + 1 - (i + 1)) (drop (i + 1) walk))
 gain_found g a b levels n v i j [] sound tower count size some l differ trace again = absurd trace
 gain_found g a b levels n v i j (u ∷ vs) sound tower count size some l differ (path, end, short, sum) again =
     let m : j + 1 - (i + 1) ≡ j - i = omega (arith, again.order) in
@@ -159,13 +171,16 @@ gain_found g a b levels n v i j (u ∷ vs) sound tower count size some l differ 
     let up = (tower.rounds (n - 1) (omega arith)).raised.keeps v l in
     let rise : height (level_of levels (n - 1)) v ≤ height (level_of levels n) v = rw last at up in
     let same : get_or (u ∷ vs) i 0 ≡ get_or (u ∷ vs) (i + (j - i)) 0 = rw at again.same in
-    let r = loop_found g a b n v (height (level_of levels n) v) (height (level_of levels (n - 1)) v) u i (j - i) vs path end short sum (omega arith) (tower_most g a b levels n v sound tower count l) (omega arith) (omega arith) same in
+    let r = loop_found g a b n v (height (level_of levels n) v) (height (level_of levels (n - 1)) v) u i (j - i) vs path end short sum (omega arith)
+        (tower_most g a b levels n v sound tower count l) (omega arith) (omega arith) same in
     let d = loop_distinct u i (j - i) vs (omega arith) same (λ p q x y. again.differ p q x (omega arith)) in
     let few : length (take (j - i) (drop i vs)) ≤ vertex_count g = simp (length-take, length-drop) (omega arith) in
     rw (m, add-one) (record { is = r.0; distinct = d; few = few; gains = r.1 })
 
 -- So a walk as long as the vertices are many repeats one.
-pub must_repeat : (g : Digraph) (a b : ℕ) (levels : List Level) (n v : ℕ) (walk : List ℕ) → IsSoundGraph g → IsTower g a b levels → length levels ≡ n + 1 → n ≡ vertex_count g → 0 < n → v < vertex_count g → (height (level_of levels n) v ≡ height (level_of levels (n - 1)) v → ⊥) → IsTrace g a b n v (height (level_of levels n) v) walk → AreDistinct walk → ⊥
+pub must_repeat : (g : Digraph) (a b : ℕ) (levels : List Level) (n v : ℕ) (walk : List ℕ) → IsSoundGraph g → IsTower g a b levels → length levels ≡ n + 1
+    → n ≡ vertex_count g → 0 < n → v < vertex_count g → (height (level_of levels n) v ≡ height (level_of levels (n - 1)) v → ⊥)
+    → IsTrace g a b n v (height (level_of levels n) v) walk → AreDistinct walk → ⊥
 must_repeat g a b levels n v [] sound tower count size some l differ trace distinct = trace
 must_repeat g a b levels n v (u ∷ vs) sound tower count size some l differ (path, end, short, sum) distinct =
     let last : n - 1 + 1 ≡ n = omega arith in

@@ -23,7 +23,8 @@ raised_below g a b top low high sound small is below v l = go (is.comes v l)
 other_comes : (g : Digraph) (a b : ℕ) (low : Level) (u w h x y : ℕ) → Comes g a b low u w h → x ≡ u → y ≡ h → Comes g a b low x w y
 other_comes g a b low u w h x y is e f = rw (e, f) is
 
-pub raise_one : (g : Digraph) (a b : ℕ) (low high : Level) (u v p : ℕ) → IsRaised g a b low high → sep g u v ≡ Some p → v < length high.heights → v < length high.from → height high v + a * p < height low u + b * wcet g v → IsRaised g a b low (record { heights = set high.heights v (height low u + b * wcet g v - a * p); from = set high.from v u })
+pub raise_one : (g : Digraph) (a b : ℕ) (low high : Level) (u v p : ℕ) → IsRaised g a b low high → sep g u v ≡ Some p → v < length high.heights → v < length high.from
+    → height high v + a * p < height low u + b * wcet g v → IsRaised g a b low (record { heights = set high.heights v (height low u + b * wcet g v - a * p); from = set high.from v u })
 raise_one g a b low high u v p is edge l m more = record {
   keeps = λ w k. keeps w k (cases_eq w v);
   comes = λ w k. comes w k (cases_eq w v);
@@ -36,7 +37,8 @@ raise_one g a b low high u v p is edge l m more = record {
     keeps w k (inl e) = rw (e, get_or-set_same high.heights v _ 0 l) (let old : height low v ≤ height high v = is.keeps v (rw e at k) in omega arith)
     keeps w k (inr differ) = rw (get_or-set_other high.heights v w _ 0 differ) (is.keeps w k)
 
-    comes : (w : ℕ) → w < vertex_count g → (w ≡ v) ⊎ (w ≡ v → ⊥) → (get_or (set high.heights v (height low u + b * wcet g v - a * p)) w 0 ≡ height low w) ⊎ Comes g a b low (get_or (set high.from v u) w 0) w (get_or (set high.heights v (height low u + b * wcet g v - a * p)) w 0)
+    comes : (w : ℕ) → w < vertex_count g → (w ≡ v) ⊎ (w ≡ v → ⊥) → (get_or (set high.heights v (height low u + b * wcet g v - a * p)) w 0 ≡ height low w) ⊎ Comes g a b
+        low (get_or (set high.from v u) w 0) w (get_or (set high.heights v (height low u + b * wcet g v - a * p)) w 0)
     comes w k (inl e) =
         let q = gap_of g u v p edge in
         rw (e, get_or-set_same high.heights v (height low u + b * wcet g v - a * p) 0 l, get_or-set_same high.from v u 0 m) (inr (record { edge = q.1; sum = rw (q.0) (omega arith) }))
@@ -46,5 +48,7 @@ raise_one g a b low high u v p is edge l m more = record {
 pub loss_small : (g : Digraph) (a u k : ℕ) → IsSoundGraph g → a ≤ 100000000 → u < vertex_count g → k < out_degree g u → a * (edge_of g u k).sep ≤ 100000000000000
 loss_small g a u k sound small l m = mul-le a (edge_of g u k).sep 100000000 most_time small (sound.sep u k l m).1
 
-pub raise_with : (g : Digraph) (a b : ℕ) (low high : Level) (u v p w : ℕ) → IsRaised g a b low high → sep g u v ≡ Some p → w ≡ wcet g v → v < length high.heights → v < length high.from → get_or high.heights v 0 + a * p < get_or low.heights u 0 + b * w → IsRaised g a b low (record { heights = set high.heights v (get_or low.heights u 0 + b * w - a * p); from = set high.from v u })
+pub raise_with : (g : Digraph) (a b : ℕ) (low high : Level) (u v p w : ℕ) → IsRaised g a b low high → sep g u v ≡ Some p → w ≡ wcet g v → v < length high.heights
+    → v < length high.from → get_or high.heights v 0 + a * p < get_or low.heights u 0 + b * w
+    → IsRaised g a b low (record { heights = set high.heights v (get_or low.heights u 0 + b * w - a * p); from = set high.from v u })
 raise_with g a b low high u v p w is edge e l m more = rw e (raise_one g a b low high u v p is edge l m (rw e at more))

@@ -74,7 +74,8 @@ steps_up a b c d scale less some_b some_d fits = le-div (suc (a * scale / b)) (c
             let r : d * (x * b) ≤ d * (a * scale) = mul-le-mul_left d l in
             omega arith
 
-pub measure_falls : (a b c d : ℕ) → a * d < b * c → 1 ≤ b → 1 ≤ d → b ≤ 100000000 → d ≤ 100000000 → c ≤ 100000000 → 1000000000000000000000000 - c * 10000000000000000 / d < 1000000000000000000000000 - a * 10000000000000000 / b
+pub measure_falls : (a b c d : ℕ) → a * d < b * c → 1 ≤ b → 1 ≤ d → b ≤ 100000000 → d ≤ 100000000 → c ≤ 100000000
+    → 1000000000000000000000000 - c * 10000000000000000 / d < 1000000000000000000000000 - a * 10000000000000000 / b
 measure_falls a b c d less some_b some_d bs ds cs =
     let up = steps_up a b c d 10000000000000000 less some_b some_d (mul-le b d 100000000 100000000 bs ds) in
     let most : c * 10000000000000000 / d ≤ 1000000000000000000000000 = quotient (c * 10000000000000000) d (omega arith) in
@@ -96,7 +97,8 @@ pub IsReached : Digraph → ℕ → ℕ → ℕ → ℕ → ℕ → Type 0
 IsReached g a b n v h = (u : ℕ) × ((vs : List ℕ) × IsPath g u vs × (last_of u vs ≡ v) × (length vs ≤ n) × (b * work g vs ≡ h + a * span g u vs))
 
 -- From the height at a level down along the walk that it belongs to.
-reaches : (g : Digraph) (a b : ℕ) (levels : List Level) (n v h : ℕ) → IsSoundGraph g → IsTower g a b levels → (k at : ℕ) (vs : List ℕ) → k < length levels → at < vertex_count g → IsPath g at vs → last_of at vs ≡ v → length vs + k ≤ n → b * work g vs + height (level_of levels k) at ≡ h + a * span g at vs → IsReached g a b n v h
+reaches : (g : Digraph) (a b : ℕ) (levels : List Level) (n v h : ℕ) → IsSoundGraph g → IsTower g a b levels → (k at : ℕ) (vs : List ℕ) → k < length levels
+    → at < vertex_count g → IsPath g at vs → last_of at vs ≡ v → length vs + k ≤ n → b * work g vs + height (level_of levels k) at ≡ h + a * span g at vs → IsReached g a b n v h
 unfolding IsReached
 reaches g a b levels n v h sound tower zero at vs m l path end short sum = let z = tower.opens at in (at, (vs, path, end, omega arith, omega arith))
 reaches g a b levels n v h sound tower (suc k) at vs m l path end short sum =
@@ -104,14 +106,16 @@ reaches g a b levels n v h sound tower (suc k) at vs m l path end short sum =
     go (round.raised.comes at l) (λ w ws x p q r s. reaches g a b levels n v h sound tower k w ws (omega arith) x p q r s)
   where
     go : (height (level_of levels (suc k)) at ≡ height (level_of levels k) at) ⊎ Comes g a b (level_of levels k) (get_or (level_of levels (suc k)).from at 0) at (height (level_of levels (suc k)) at) →
-        ((w : ℕ) (ws : List ℕ) → w < vertex_count g → IsPath g w ws → last_of w ws ≡ v → length ws + k ≤ n → b * work g ws + height (level_of levels k) w ≡ h + a * span g w ws → IsReached g a b n v h) → IsReached g a b n v h
+        ((w : ℕ) (ws : List ℕ) → w < vertex_count g → IsPath g w ws → last_of w ws ≡ v → length ws + k ≤ n
+            → b * work g ws + height (level_of levels k) w ≡ h + a * span g w ws → IsReached g a b n v h) → IsReached g a b n v h
     go (inl e) ih = ih at vs l path end (omega arith) (omega arith)
     go (inr comes) ih =
         let u = get_or (level_of levels (suc k)).from at 0 in
         let s = comes.sum in
         ih u (at ∷ vs) (source_of g sound u at (gap g u at) comes.edge) (comes.edge, path) end (omega arith) (rw (work_cons, span_cons) (omega arith))
 
-pub tower_reaches : (g : Digraph) (a b : ℕ) (levels : List Level) (n v : ℕ) → IsSoundGraph g → IsTower g a b levels → n < length levels → v < vertex_count g → IsReached g a b n v (height (level_of levels n) v)
+pub tower_reaches : (g : Digraph) (a b : ℕ) (levels : List Level) (n v : ℕ) → IsSoundGraph g → IsTower g a b levels → n < length levels → v < vertex_count g
+    → IsReached g a b n v (height (level_of levels n) v)
 tower_reaches g a b levels n v sound tower m l = reaches g a b levels n v (height (level_of levels n) v) sound tower n v [] m l tt refl (omega arith) (rw (work_none, span_none) (omega arith))
 
 pub is_potential : (g : Digraph) (a b n v h : ℕ) → n ≡ vertex_count g → 0 < n → IsMost g a b n v h → IsReached g a b (n - 1) v h → IsPotential g a b v (pos h)
@@ -122,7 +126,8 @@ is_potential g a b n v h size some most (u, (vs, path, end, short, sum)) = recor
 }
 
 -- Once the last round raises nothing no cycle gains.
-pub settled_least : (g : Digraph) (a b : ℕ) (levels : List Level) (n : ℕ) → IsSoundGraph g → IsTower g a b levels → length levels ≡ n + 1 → n ≡ vertex_count g → 0 < n → IsSettled levels n → BoundsCycles g a b
+pub settled_least : (g : Digraph) (a b : ℕ) (levels : List Level) (n : ℕ) → IsSoundGraph g → IsTower g a b levels → length levels ≡ n + 1 → n ≡ vertex_count g → 0 < n
+    → IsSettled levels n → BoundsCycles g a b
 settled_least g a b levels n sound tower count size some settled cycle is = fits_cycle g a b (λ v. height (level_of levels (n - 1)) v) fits cycle is
   where
     fits : (u v : ℕ) → IsEdge g u v → height (level_of levels (n - 1)) u + b * wcet g v ≤ height (level_of levels (n - 1)) v + a * gap g u v
@@ -132,7 +137,8 @@ settled_least g a b levels n sound tower count size some settled cycle is = fits
         let l = (target_of g sound u v (gap g u v) edge).0 in
         omega (arith, round_edge g a b (level_of levels (n - 1)) (level_of levels n) sound round u v edge, settled v (omega arith))
 
-pub settled_fits : (g : Digraph) (a b : ℕ) (levels : List Level) (n : ℕ) → IsSoundGraph g → IsTower g a b levels → length levels ≡ n + 1 → n ≡ vertex_count g → 0 < n → IsSettled levels n → (u v p : ℕ) → sep g u v ≡ Some p → height (level_of levels (n - 1)) u + b * wcet g v ≤ height (level_of levels (n - 1)) v + a * p
+pub settled_fits : (g : Digraph) (a b : ℕ) (levels : List Level) (n : ℕ) → IsSoundGraph g → IsTower g a b levels → length levels ≡ n + 1 → n ≡ vertex_count g → 0 < n
+    → IsSettled levels n → (u v p : ℕ) → sep g u v ≡ Some p → height (level_of levels (n - 1)) u + b * wcet g v ≤ height (level_of levels (n - 1)) v + a * p
 settled_fits g a b levels n sound tower count size some settled u v p edge =
     let last : n - 1 + 1 ≡ n = omega arith in
     let round : IsWholeRound g a b (level_of levels (n - 1)) (level_of levels n) = rw last at (tower.rounds (n - 1) (omega arith)) in

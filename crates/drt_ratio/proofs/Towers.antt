@@ -19,7 +19,8 @@ tower_one g a b l none = record {
     small zero m v = omega (arith, none v)
     small (suc k) m v = absurd (omega arith)
 
-pub tower_push : (g : Digraph) (a b i : ℕ) (levels : List Level) (next : Level) → IsSoundGraph g → b ≤ 100000000 → IsTower g a b levels → length levels ≡ i + 1 → IsWholeRound g a b (level_of levels i) next → IsTower g a b (levels ++ next ∷ [])
+pub tower_push : (g : Digraph) (a b i : ℕ) (levels : List Level) (next : Level) → IsSoundGraph g → b ≤ 100000000 → IsTower g a b levels → length levels ≡ i + 1
+    → IsWholeRound g a b (level_of levels i) next → IsTower g a b (levels ++ next ∷ [])
 tower_push g a b i levels next sound small is count round = record {
   opens = λ v. rw (get_or_append_left levels (next ∷ []) no_level 0 (omega arith)) (is.opens v);
   rounds = λ k m. rounds k m (cases_lt (k + 1) (i + 1));

@@ -26,14 +26,17 @@ module _ (f : Plain) where
   under_child leaf n l r h u = under_by leaf n l r h u.0 u.1
 
   -- a tuple below the nodes is below one of the halves
-  pub below_half : (tuple nodes : List ℕ) (place n l r : ℕ) → slice_get nodes place ≡ Some n → children f n ≡ Some (l, r) → AreBelow f tuple nodes → AreBelow f tuple (set nodes place l) ⊎ AreBelow f tuple (set nodes place r)
+  pub below_half : (tuple nodes : List ℕ) (place n l r : ℕ) → slice_get nodes place ≡ Some n → children f n ≡ Some (l, r) → AreBelow f tuple nodes
+      → AreBelow f tuple (set nodes place l) ⊎ AreBelow f tuple (set nodes place r)
   below_half [] [] place n l r at h b = absurd (none-some n at)
   below_half [] (m ∷ nodes) place n l r at h b = elim b [ ]
   below_half (leaf ∷ tuple) [] place n l r at h b = elim b [ ]
   below_half (leaf ∷ tuple) (m ∷ nodes) zero n l r at h b =
-      elim (under_child leaf n l r h (subst (λ (k : ℕ). IsUnder f leaf k) (same_Some m n at) b.0)) as (λ _. AreBelow f (leaf ∷ tuple) (l ∷ nodes) ⊎ AreBelow f (leaf ∷ tuple) (r ∷ nodes)) [ inl u ↦ inl (u, b.1) | inr u ↦ inr (u, b.1) ]
+      elim (under_child leaf n l r h (subst (λ (k : ℕ). IsUnder f leaf k) (same_Some m n at) b.0)) as
+          (λ _. AreBelow f (leaf ∷ tuple) (l ∷ nodes) ⊎ AreBelow f (leaf ∷ tuple) (r ∷ nodes)) [ inl u ↦ inl (u, b.1) | inr u ↦ inr (u, b.1) ]
   below_half (leaf ∷ tuple) (m ∷ nodes) (suc place) n l r at h b =
-      elim (below_half tuple nodes place n l r at h b.1) as (λ _. AreBelow f (leaf ∷ tuple) (m ∷ set nodes place l) ⊎ AreBelow f (leaf ∷ tuple) (m ∷ set nodes place r)) [ inl u ↦ inl (b.0, u) | inr u ↦ inr (b.0, u) ]
+      elim (below_half tuple nodes place n l r at h b.1) as (λ _. AreBelow f (leaf ∷ tuple) (m ∷ set nodes place l) ⊎ AreBelow f (leaf ∷ tuple) (m ∷ set nodes place r))
+          [ inl u ↦ inl (b.0, u) | inr u ↦ inr (b.0, u) ]
 
   module _ (above : (leaf n t : ℕ) → IsUnder f leaf n → value_at (node_values_in f leaf) t ≤ value_at (node_values_in f n) t) where
     below_sum : (tuple nodes : List ℕ) (t : ℕ) → AreBelow f tuple nodes → sum_at f.pool tuple t ≤ sum_at f.pool nodes t
@@ -53,7 +56,8 @@ module _ (f : Plain) where
         record { from = p.from; to = p.to; passes = omega arith }
 
   -- a child in place of its pair
-  pub chosen_set : (deadline : ℕ) (nodes : List ℕ) (place k : ℕ) → k < length f.pool → deadline ≤ length (node_values_in f k) → AreChosen deadline f.pool nodes → AreChosen deadline f.pool (set nodes place k)
+  pub chosen_set : (deadline : ℕ) (nodes : List ℕ) (place k : ℕ) → k < length f.pool → deadline ≤ length (node_values_in f k) → AreChosen deadline f.pool nodes
+      → AreChosen deadline f.pool (set nodes place k)
   chosen_set deadline [] place k lt le h = tt
   chosen_set deadline (m ∷ nodes) zero k lt le h = (lt, le, h.2)
   chosen_set deadline (m ∷ nodes) (suc place) k lt le h = (h.0, h.1, chosen_set deadline nodes place k lt le h.2)
@@ -63,7 +67,8 @@ module _ (f : Plain) where
   chosen_at deadline (m ∷ nodes) zero n at h = subst (λ (k : ℕ). (k < length f.pool) × (deadline ≤ length (node_values_in f k))) (same_Some m n at) (h.0, h.1)
   chosen_at deadline (m ∷ nodes) (suc place) n at h = chosen_at deadline nodes place n at h.2
 
-  pub chosen_halves : IsForest f → (deadline : ℕ) (nodes : List ℕ) (place n l r : ℕ) → slice_get nodes place ≡ Some n → children f n ≡ Some (l, r) → AreChosen deadline f.pool nodes → AreChosen deadline f.pool (set nodes place l) × AreChosen deadline f.pool (set nodes place r)
+  pub chosen_halves : IsForest f → (deadline : ℕ) (nodes : List ℕ) (place n l r : ℕ) → slice_get nodes place ≡ Some n → children f n ≡ Some (l, r)
+      → AreChosen deadline f.pool nodes → AreChosen deadline f.pool (set nodes place l) × AreChosen deadline f.pool (set nodes place r)
   chosen_halves forest deadline nodes place n l r at h chosen =
       let here : (n < length f.pool) × (deadline ≤ length (node_values_in f n)) = chosen_at deadline nodes place n at chosen in
       let lt : n < length f.pool = here.0 in

@@ -41,47 +41,57 @@ module _ (t : FrontierSetting) where
   module _ (s : FrontierState) (e : FrontierEntry) (within : length s.log ≤ t.budget) (unfailed : first is_failed s.combinations ≡ None) where
     -- a step that is refused where the log is full
     effect_full : (b : Bool) (o : FrontierOutcome) → is_full t s ≡ b → is_finished t s ≡ false → (length s.log < t.budget → Effect s e o) → Effect s e (cond b (unchanged s Spent) o)
-    effect_full true o h unfinished go = stood refl refl (record { full = (let le : t.budget ≤ length s.log = leb-true t.budget (length s.log) h in omega arith); unfinished = unfinished; unfailed = unfailed })
+    effect_full true o h unfinished go = stood refl refl
+        (record { full = (let le : t.budget ≤ length s.log = leb-true t.budget (length s.log) h in omega arith); unfinished = unfinished; unfailed = unfailed })
     effect_full false o h unfinished go = go (leb-false t.budget (length s.log) h)
 
     pending_unfinished : (k : ℕ) → first is_combination_pending s.combinations ≡ Some k → is_finished t s ≡ false
     pending_unfinished k h = ap (λ o. is_none o && (is_none (first is_combination_taken s.combinations) && is_none (first is_failed s.combinations))) h
 
     taken_unfinished : (k : ℕ) → first is_combination_taken s.combinations ≡ Some k → is_finished t s ≡ false
-    taken_unfinished k h = ap (λ o. is_none (first is_combination_pending s.combinations) && (is_none o && is_none (first is_failed s.combinations))) h ∙ and_false (is_none (first is_combination_pending s.combinations))
+    taken_unfinished k h = ap (λ o. is_none (first is_combination_pending s.combinations) && (is_none o && is_none (first is_failed s.combinations))) h
+        ∙ and_false (is_none (first is_combination_pending s.combinations))
 
     none_finished : first is_combination_pending s.combinations ≡ None → first is_combination_taken s.combinations ≡ None → is_finished t s ≡ true
     none_finished p q = ap (λ o. is_none o && (is_none (first is_combination_taken s.combinations) && is_none (first is_failed s.combinations))) p
         ∙ (ap (λ o. is_none o && is_none (first is_failed s.combinations)) q ∙ ap (λ o. is_none o) unfailed)
 
-    halved_effect : (id place : ℕ) (c : Combination) (o : Option (ℕ × ℕ)) (p : IsPairAt t c.nodes place) → children_at t (slice_get c.nodes place) ≡ o → length s.log < t.budget → Effect s e (halved t s e id place c.nodes o)
+    halved_effect : (id place : ℕ) (c : Combination) (o : Option (ℕ × ℕ)) (p : IsPairAt t c.nodes place) → children_at t (slice_get c.nodes place) ≡ o
+        → length s.log < t.budget → Effect s e (halved t s e id place c.nodes o)
     halved_effect id place c None p h lt =
         let q : ℕ × ℕ = (p.left, p.right) in
         absurd (none-some q (sym h ∙ (ap (λ o. children_at t o) p.at ∙ p.children)))
     halved_effect id place c (Some q) p h lt = went lt refl (λ g. never false _ refl g)
 
-    halved_at_effect : (id place : ℕ) (c : Combination) (o : Option Combination) → slice_get s.combinations id ≡ Some c → IsPairAt t c.nodes place → slice_get s.combinations id ≡ o → length s.log < t.budget → Effect s e (halved_at t s e id place o)
+    halved_at_effect : (id place : ℕ) (c : Combination) (o : Option Combination) → slice_get s.combinations id ≡ Some c → IsPairAt t c.nodes place
+        → slice_get s.combinations id ≡ o → length s.log < t.budget → Effect s e (halved_at t s e id place o)
     halved_at_effect id place c None at p h lt = absurd (none-some c (sym h ∙ at))
     halved_at_effect id place c (Some d) at p h lt =
         let same : c ≡ d = same_Some c d (sym at ∙ h) in
         halved_effect id place d (children_at t (slice_get d.nodes place)) (subst (λ (x : Combination). IsPairAt t x.nodes place) same p) refl lt
 
     fails : (id : ℕ) (c : Combination) → slice_get s.combinations id ≡ Some c → first is_failed (changed id (with_state HasFailed) s.combinations) ≡ Some id
-    fails id c at = ap (λ cs. first is_failed cs) (changed_set (with_state HasFailed) s.combinations id c at) ∙ sym (first_new is_failed s.combinations id (with_state HasFailed c) (slice_get_within s.combinations id c at) unfailed refl)
+    fails id c at = ap (λ cs. first is_failed cs) (changed_set (with_state HasFailed) s.combinations id c at)
+        ∙ sym (first_new is_failed s.combinations id (with_state HasFailed c) (slice_get_within s.combinations id c at) unfailed refl)
 
   module _ (s : FrontierState) (w : ℕ) (within : length s.log ≤ t.budget) where
-    take_effect : (o : Option ℕ) → first is_failed s.combinations ≡ None → first is_combination_pending s.combinations ≡ o → first is_combination_taken s.combinations ≡ None → Effect s (record { worker = w; step = Take }) (taken t s w o None)
+    take_effect : (o : Option ℕ) → first is_failed s.combinations ≡ None → first is_combination_pending s.combinations ≡ o
+        → first is_combination_taken s.combinations ≡ None → Effect s (record { worker = w; step = Take }) (taken t s w o None)
     take_effect None unfailed h none = stood refl refl (none_finished s (record { worker = w; step = Take }) within unfailed h none)
-    take_effect (Some k) unfailed h none = effect_full s (record { worker = w; step = Take }) within unfailed (is_full t s) _ refl (pending_unfinished s (record { worker = w; step = Take }) within unfailed k h) (λ lt. went lt refl (λ g. never false _ refl g))
+    take_effect (Some k) unfailed h none = effect_full s (record { worker = w; step = Take }) within unfailed (is_full t s) _ refl
+        (pending_unfinished s (record { worker = w; step = Take }) within unfailed k h) (λ lt. went lt refl (λ g. never false _ refl g))
 
     stepped_effect : (step : FrontierStep) → first is_failed s.combinations ≡ None → CanStep t s w step → IsTurn t s step → Effect s (record { worker = w; step = step }) (stepped t s w step)
-    stepped_effect Take unfailed can turn = subst (λ (o : Option ℕ). Effect s (record { worker = w; step = Take }) (taken t s w (first is_combination_pending s.combinations) o)) (sym turn) (take_effect (first is_combination_pending s.combinations) unfailed refl turn)
+    stepped_effect Take unfailed can turn = subst
+        (λ (o : Option ℕ). Effect s (record { worker = w; step = Take }) (taken t s w (first is_combination_pending s.combinations) o)) (sym turn)
+        (take_effect (first is_combination_pending s.combinations) unfailed refl turn)
     stepped_effect (Pass id time) unfailed can turn =
         let e : FrontierEntry = record { worker = w; step = Pass id time } in
         effect_full s e within unfailed (is_full t s) _ refl (taken_unfinished s e within unfailed turn.0 turn.1) (λ lt. went lt refl (λ g. never false _ refl g))
     stepped_effect (Split id place) unfailed can turn =
         let e : FrontierEntry = record { worker = w; step = Split id place } in
-        effect_full s e within unfailed (is_full t s) _ refl (taken_unfinished s e within unfailed turn.0 turn.1) (λ lt. halved_at_effect s e within unfailed id place can.0 (slice_get s.combinations id) can.1.at can.2 refl lt)
+        effect_full s e within unfailed (is_full t s) _ refl (taken_unfinished s e within unfailed turn.0 turn.1)
+            (λ lt. halved_at_effect s e within unfailed id place can.0 (slice_get s.combinations id) can.1.at can.2 refl lt)
     stepped_effect (Fail id) unfailed can turn =
         let e : FrontierEntry = record { worker = w; step = Fail id } in
         effect_full s e within unfailed (is_full t s) _ refl (taken_unfinished s e within unfailed turn.0 turn.1) (λ lt. went lt refl (λ g. fails s e within unfailed id can.0 can.1.at))
@@ -97,22 +107,26 @@ module _ (f : Plain) (d : ℕ) (old : FrontierView) (w : ℕ) (step : FrontierSt
   abbrev pub entry : FrontierEntry
   entry = record { worker = w; step = step }
 
-  turn_by : CanApply f old w step → IsEagerStep (setting_of f old) (state_of old) entry → IsDriven d (state_of old) entry → (o : FrontierOutcome) → outcome f old w step ≡ o → Effect (setting_of f old) (state_of old) entry o → FrontierTurn f d old (moved old o.state) o.reply
+  turn_by : CanApply f old w step → IsEagerStep (setting_of f old) (state_of old) entry → IsDriven d (state_of old) entry → (o : FrontierOutcome)
+      → outcome f old w step ≡ o → Effect (setting_of f old) (state_of old) entry o → FrontierTurn f d old (moved old o.state) o.reply
   turn_by can eager driven o is (stood same end stops) = record {
     drives = record { more = []; setting = refl; log = ap (λ (s : FrontierState). s.log) same ∙ sym (append-nil old.log); run = tt; state = same; eager = tt; driven = tt };
     stops = λ g. subst (λ (s : FrontierState). StopsAt (setting_of f old) s o.reply) (sym same) stops;
     goes = λ g. absurd (true_not_false (ends_frontier o.reply) end g);
   }
   turn_by can eager driven o is (went lt log stops) = record {
-    drives = record { more = entry ∷ []; setting = refl; log = log; run = (can, ap (λ (x : FrontierOutcome). x.state.log) is ∙ log, tt); state = sym (ap (λ (x : FrontierOutcome). x.state) is); eager = (eager, tt); driven = (driven, tt) };
+    drives = record { more = entry ∷ []; setting = refl; log = log; run = (can, ap (λ (x : FrontierOutcome). x.state.log) is ∙ log, tt); state = sym
+        (ap (λ (x : FrontierOutcome). x.state) is); eager = (eager, tt); driven = (driven, tt) };
     stops = stops;
     goes = λ g. (ap length log ∙ length-append old.log (entry ∷ []), lt, refl);
   }
 
   -- a driver's step
-  pub turn_of : (new : FrontierView) (r : FrontierReply) → length old.log ≤ old.budget → CanApply f old w step → IsEagerStep (setting_of f old) (state_of old) entry → IsDriven d (state_of old) entry → IsTurn (setting_of f old) (state_of old) step → IsFrontierStep f old new w step r → FrontierTurn f d old new r
+  pub turn_of : (new : FrontierView) (r : FrontierReply) → length old.log ≤ old.budget → CanApply f old w step → IsEagerStep (setting_of f old) (state_of old) entry
+      → IsDriven d (state_of old) entry → IsTurn (setting_of f old) (state_of old) step → IsFrontierStep f old new w step r → FrontierTurn f d old new r
   turn_of new r within can eager driven turn h =
-      let base : FrontierTurn f d old (moved old (outcome f old w step).state) (outcome f old w step).reply = turn_by can eager driven (outcome f old w step) refl (step_effect (setting_of f old) (state_of old) w within step can turn) in
+      let base : FrontierTurn f d old (moved old (outcome f old w step).state) (outcome f old w step).reply = turn_by can eager driven (outcome f old w step) refl
+          (step_effect (setting_of f old) (state_of old) w within step can turn) in
       subst (λ (v : FrontierView). FrontierTurn f d old v r) (sym h.state) (subst (λ (q : FrontierReply). FrontierTurn f d old (moved old (outcome f old w step).state) q) (sym h.reply_is) base)
 
 module _ (f : Plain) (d : ℕ) where
@@ -125,9 +139,11 @@ module _ (f : Plain) (d : ℕ) where
   drives_on old mid new a b =
       let t : FrontierSetting = setting_of f old in
       let run : IsRunBy (after t) (CanEnter t) (λ (s : FrontierState). s.log) (replay_from t (state_of old) a.more) b.more =
-      subst (λ (s : FrontierState). IsRunBy (after t) (CanEnter t) (λ (s : FrontierState). s.log) s b.more) a.state (subst (λ (x : FrontierSetting). IsRunBy (after x) (CanEnter x) (λ (s : FrontierState). s.log) (state_of mid) b.more) a.setting b.run) in
+      subst (λ (s : FrontierState). IsRunBy (after t) (CanEnter t) (λ (s : FrontierState). s.log) s b.more) a.state
+          (subst (λ (x : FrontierSetting). IsRunBy (after x) (CanEnter x) (λ (s : FrontierState). s.log) (state_of mid) b.more) a.setting b.run) in
       let eager : AllAlong (after t) (IsEagerStep t) (replay_from t (state_of old) a.more) b.more =
-      subst (λ (s : FrontierState). AllAlong (after t) (IsEagerStep t) s b.more) a.state (subst (λ (x : FrontierSetting). AllAlong (after x) (IsEagerStep x) (state_of mid) b.more) a.setting b.eager) in
+      subst (λ (s : FrontierState). AllAlong (after t) (IsEagerStep t) s b.more) a.state
+          (subst (λ (x : FrontierSetting). AllAlong (after x) (IsEagerStep x) (state_of mid) b.more) a.setting b.eager) in
       let driven : AllAlong (after t) (IsDriven d) (replay_from t (state_of old) a.more) b.more =
       subst (λ (s : FrontierState). AllAlong (after t) (IsDriven d) s b.more) a.state (subst (λ (x : FrontierSetting). AllAlong (after x) (IsDriven d) (state_of mid) b.more) a.setting b.driven) in
       let state : state_of new ≡ replay_from t (replay_from t (state_of old) a.more) b.more =

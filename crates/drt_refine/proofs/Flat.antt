@@ -12,12 +12,14 @@ pub length_combinations : (width : ℕ) (nodes : List ℕ) (states : List Combin
 length_combinations width nodes [] = refl
 length_combinations width nodes (s ∷ states) = ap suc (length_combinations width (drop width nodes) states)
 
-pub combinations_set : (width : ℕ) (nodes : List ℕ) (states : List CombinationState) (i : ℕ) (x : CombinationState) → combinations_of width nodes (set states i x) ≡ changed i (with_state x) (combinations_of width nodes states)
+pub combinations_set : (width : ℕ) (nodes : List ℕ) (states : List CombinationState) (i : ℕ) (x : CombinationState)
+    → combinations_of width nodes (set states i x) ≡ changed i (with_state x) (combinations_of width nodes states)
 combinations_set width nodes [] i x = refl
 combinations_set width nodes (s ∷ states) zero x = refl
 combinations_set width nodes (s ∷ states) (suc i) x = ap (λ cs. record { nodes = take width nodes; state = s } ∷ cs) (combinations_set width (drop width nodes) states i x)
 
-pub first_combinations : (p : CombinationState → Bool) (width : ℕ) (nodes : List ℕ) (states : List CombinationState) → first p states ≡ first (λ (c : Combination). p c.state) (combinations_of width nodes states)
+pub first_combinations : (p : CombinationState → Bool) (width : ℕ) (nodes : List ℕ) (states : List CombinationState)
+    → first p states ≡ first (λ (c : Combination). p c.state) (combinations_of width nodes states)
 first_combinations p width nodes [] = refl
 first_combinations p width nodes (s ∷ states) = ap (λ o. cond (p s) (Some 0) (option_map suc o)) (first_combinations p width (drop width nodes) states)
 
@@ -36,7 +38,8 @@ drop_drop (suc a) b [] = drop_nil b ∙ sym (drop_nil (suc a + b))
 drop_drop (suc a) zero (x ∷ xs) = let e : drop 0 (drop a xs) ≡ drop (a + 0) xs = drop_drop a 0 xs in e ∙ ap (λ n. drop n (x ∷ xs)) (let g : suc (a + 0) ≡ suc a + 0 = omega arith in g)
 drop_drop (suc a) (suc b) (x ∷ xs) = drop_drop a (suc b) xs ∙ ap (λ n. drop n (x ∷ xs)) (let g : suc (a + suc b) ≡ suc a + suc b = omega arith in g)
 
-pub combination_at : (width : ℕ) (nodes : List ℕ) (states : List CombinationState) (i : ℕ) (c : Combination) → slice_get (combinations_of width nodes states) i ≡ Some c → CombinationAt width nodes states i c
+pub combination_at : (width : ℕ) (nodes : List ℕ) (states : List CombinationState) (i : ℕ) (c : Combination) → slice_get (combinations_of width nodes states) i ≡ Some c
+    → CombinationAt width nodes states i c
 combination_at width nodes [] i c at = absurd (none-some c at)
 combination_at width nodes (s ∷ states) zero c at =
     let e : record { nodes = take width nodes; state = s } ≡ c = same_Some (record { nodes = take width nodes; state = s }) c at in
@@ -87,13 +90,15 @@ length_drop zero (x ∷ xs) h = omega arith
 length_drop (suc n) [] h = absurd (let g : suc n ≤ 0 = h in omega arith)
 length_drop (suc n) (x ∷ xs) h = let e : length (drop n xs) + n ≡ length xs = length_drop n xs (omega arith) in omega arith
 
-pub state_at : (width : ℕ) (nodes : List ℕ) (states : List CombinationState) (i : ℕ) (s : CombinationState) → slice_get states i ≡ Some s → (c : Combination) × (slice_get (combinations_of width nodes states) i ≡ Some c) × (c.state ≡ s)
+pub state_at : (width : ℕ) (nodes : List ℕ) (states : List CombinationState) (i : ℕ) (s : CombinationState) → slice_get states i ≡ Some s
+    → (c : Combination) × (slice_get (combinations_of width nodes states) i ≡ Some c) × (c.state ≡ s)
 state_at width nodes [] i s at = absurd (none-some s at)
 state_at width nodes (x ∷ states) zero s at = (record { nodes = take width nodes; state = x }, refl, same_Some x s at)
 state_at width nodes (x ∷ states) (suc i) s at = state_at width (drop width nodes) states i s at
 
 -- one more combination
-pub combinations_push : (width : ℕ) (nodes more : List ℕ) (states : List CombinationState) (x : CombinationState) → length nodes ≡ length states * width → length more ≡ width → combinations_of width (nodes ++ more) (states ++ x ∷ []) ≡ combinations_of width nodes states ++ record { nodes = more; state = x } ∷ []
+pub combinations_push : (width : ℕ) (nodes more : List ℕ) (states : List CombinationState) (x : CombinationState) → length nodes ≡ length states * width
+    → length more ≡ width → combinations_of width (nodes ++ more) (states ++ x ∷ []) ≡ combinations_of width nodes states ++ record { nodes = more; state = x } ∷ []
 combinations_push width nodes more [] x e l =
     let z : nodes ≡ [] = no_more nodes (let h : 0 * width ≡ 0 = omega arith in e ∙ h) in
     ap (λ (xs : List ℕ). record { nodes = take width (xs ++ more); state = x } ∷ []) z ∙ ap (λ (xs : List ℕ). record { nodes = xs; state = x } ∷ []) (take_whole width more l)
@@ -101,11 +106,13 @@ combinations_push width nodes more (s ∷ states) x e l =
     let f : length nodes ≡ length states * width + width = e ∙ (let h : suc (length states) * width ≡ length states * width + width = omega arith in h) in
     let d : length (drop width nodes) + width ≡ length nodes = length_drop width nodes (omega arith) in
     ap (λ (xs : List ℕ). record { nodes = xs; state = s } ∷ combinations_of width (drop width (nodes ++ more)) (states ++ x ∷ [])) (take_front width nodes more (omega arith))
-    ∙ ap (λ cs. record { nodes = take width nodes; state = s } ∷ cs) (ap (λ xs. combinations_of width xs (states ++ x ∷ [])) (drop_front width nodes more (omega arith)) ∙ combinations_push width (drop width nodes) more states x (omega arith) l)
+    ∙ ap (λ cs. record { nodes = take width nodes; state = s } ∷ cs)
+        (ap (λ xs. combinations_of width xs (states ++ x ∷ [])) (drop_front width nodes more (omega arith)) ∙ combinations_push width (drop width nodes) more states x (omega arith) l)
 
 -- a view whose combinations and log change
 pub moved_by : (r : List ℕ) (w d b : ℕ) (cs : List Combination) (l : List FrontierEntry) (v : FrontierView) → record { roots = r; wcet = w; deadline = d; budget = b; combinations = cs; log = l } ≡ v →
-    (g : List Combination → List Combination) (e : FrontierEntry) (cs' : List Combination) (l' : List FrontierEntry) → cs' ≡ g cs → l' ≡ l ++ e ∷ [] → record { roots = r; wcet = w; deadline = d; budget = b; combinations = cs'; log = l' } ≡ moved v (record { combinations = g v.combinations; log = v.log ++ e ∷ [] })
+    (g : List Combination → List Combination) (e : FrontierEntry) (cs' : List Combination) (l' : List FrontierEntry) → cs' ≡ g cs → l' ≡ l ++ e ∷ []
+        → record { roots = r; wcet = w; deadline = d; budget = b; combinations = cs'; log = l' } ≡ moved v (record { combinations = g v.combinations; log = v.log ++ e ∷ [] })
 moved_by r w d b cs l v is g e cs' l' p q =
     ap (λ (xs : List Combination). record { roots = r; wcet = w; deadline = d; budget = b; combinations = xs; log = l' }) p
     ∙ (ap (λ (xs : List FrontierEntry). record { roots = r; wcet = w; deadline = d; budget = b; combinations = g cs; log = xs }) q

@@ -32,7 +32,9 @@ rows a b w le =
     let h : (a + (b - a)) * w ≡ a * w + (b - a) * w = omega arith in
     omega arith
 
-pub room_of : (w : ℕ) (nodes : List ℕ) (states : List CombinationState) (budget entries id : ℕ) (c : Combination) → length nodes ≡ length states * w → length states + length (places is_taken_combination states) ≤ 1 + entries → entries < budget → slice_get (combinations_of w nodes states) id ≡ Some c → is_combination_taken c ≡ true → Room w nodes states budget id c
+pub room_of : (w : ℕ) (nodes : List ℕ) (states : List CombinationState) (budget entries id : ℕ) (c : Combination) → length nodes ≡ length states * w
+    → length states + length (places is_taken_combination states) ≤ 1 + entries → entries < budget → slice_get (combinations_of w nodes states) id ≡ Some c
+    → is_combination_taken c ≡ true → Room w nodes states budget id c
 room_of w nodes states budget entries id c e room lt at held =
     let a : CombinationAt w nodes states id c = combination_at w nodes states id c at in
     let one : 1 ≤ length (places is_taken_combination states) = some_taken states id c.state a.state_at held in
@@ -41,13 +43,15 @@ room_of w nodes states budget entries id c e room lt at held =
     let q : (length states + 2) * w ≤ (budget + 1) * w = rows (length states + 2) (budget + 1) w (omega arith) in
     record { lt = in_list; few = omega arith; part = omega arith; wide = omega arith; nodes_are = a.nodes_are }
 
-module _ (w : ℕ) (nodes : List ℕ) (states : List CombinationState) (id place left right : ℕ) (c : Combination) (e : length nodes ≡ length states * w) (part : id * w + w ≤ length nodes) (are : c.nodes ≡ take w (drop (id * w) nodes)) (wide : length c.nodes ≡ w) where
+module _ (w : ℕ) (nodes : List ℕ) (states : List CombinationState) (id place left right : ℕ) (c : Combination) (e : length nodes ≡ length states * w)
+    (part : id * w + w ≤ length nodes) (are : c.nodes ≡ take w (drop (id * w) nodes)) (wide : length c.nodes ≡ w) where
   pub same_part : (more : List ℕ) → take w (drop (id * w) (nodes ++ more)) ≡ c.nodes
   same_part more =
       ap (λ xs. take w xs) (drop_front (id * w) nodes more (omega arith))
       ∙ (take_front w (drop (id * w) nodes) more (let d : length (drop (id * w) nodes) + id * w ≡ length nodes = length_drop (id * w) nodes (omega arith) in omega arith) ∙ sym are)
 
-  pub halves_made : (a b : List ℕ) (x : CombinationState) → a ≡ set c.nodes place left → b ≡ set c.nodes place right → x ≡ SplitAt place (length (combinations_of w nodes states)) (length (combinations_of w nodes states) + 1) →
+  pub halves_made : (a b : List ℕ) (x : CombinationState) → a ≡ set c.nodes place left → b ≡ set c.nodes place right
+      → x ≡ SplitAt place (length (combinations_of w nodes states)) (length (combinations_of w nodes states) + 1) →
       combinations_of w ((nodes ++ a) ++ b) ((set states id x ++ Pending ∷ []) ++ Pending ∷ []) ≡ halves (combinations_of w nodes states) id place (set c.nodes place left) (set c.nodes place right)
   halves_made a b x p q y =
       let la : length a ≡ w = ap length p ∙ (length_set c.nodes place left ∙ wide) in
@@ -62,8 +66,10 @@ module _ (w : ℕ) (nodes : List ℕ) (states : List CombinationState) (id place
       ∙ (ap (λ cs. cs ++ fresh_combination b ∷ []) (combinations_push w nodes a (set states id x) Pending e1 la ∙ ap (λ cs. cs ++ fresh_combination a ∷ []) (combinations_set w nodes states id x))
       ∙ (two (changed id (with_state x) (combinations_of w nodes states)) (fresh_combination a) (fresh_combination b)
       ∙ (ap (λ z. changed id (with_state z) (combinations_of w nodes states) ++ fresh_combination a ∷ fresh_combination b ∷ []) y
-      ∙ (ap (λ z. changed id (with_state (SplitAt place (length (combinations_of w nodes states)) (length (combinations_of w nodes states) + 1))) (combinations_of w nodes states) ++ fresh_combination z ∷ fresh_combination b ∷ []) p
-      ∙ ap (λ z. changed id (with_state (SplitAt place (length (combinations_of w nodes states)) (length (combinations_of w nodes states) + 1))) (combinations_of w nodes states) ++ fresh_combination (set c.nodes place left) ∷ fresh_combination z ∷ []) q))))
+      ∙ (ap (λ z. changed id (with_state (SplitAt place (length (combinations_of w nodes states)) (length (combinations_of w nodes states) + 1)))
+          (combinations_of w nodes states) ++ fresh_combination z ∷ fresh_combination b ∷ []) p
+      ∙ ap (λ z. changed id (with_state (SplitAt place (length (combinations_of w nodes states)) (length (combinations_of w nodes states) + 1)))
+          (combinations_of w nodes states) ++ fresh_combination (set c.nodes place left) ∷ fresh_combination z ∷ []) q))))
     where
       two : {A : Type 0} (xs : List A) (u v : A) → (xs ++ u ∷ []) ++ v ∷ [] ≡ xs ++ u ∷ v ∷ []
       two [] u v = refl

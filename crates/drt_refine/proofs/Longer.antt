@@ -26,9 +26,11 @@ no_longer es e h = let l : length es ≡ length es + 1 = ap length h ∙ length-
 -- a greater budget changes no step that is logged
 module _ (t : FrontierSetting) (budget : ℕ) (more : t.budget ≤ budget) where
   module _ (s : FrontierState) (e : FrontierEntry) where
-    full_same : (b : Bool) (x : FrontierOutcome) → is_full t s ≡ b → (cond b (unchanged s Spent) x).state.log ≡ s.log ++ e ∷ [] → cond (is_full (with_budget budget t) s) (unchanged s Spent) x ≡ cond b (unchanged s Spent) x
+    full_same : (b : Bool) (x : FrontierOutcome) → is_full t s ≡ b → (cond b (unchanged s Spent) x).state.log ≡ s.log ++ e ∷ []
+        → cond (is_full (with_budget budget t) s) (unchanged s Spent) x ≡ cond b (unchanged s Spent) x
     full_same true x h l = absurd (no_longer s.log e l)
-    full_same false x h l = ap (λ b. cond b (unchanged s Spent) x) (let lt : length s.log < t.budget = leb-false t.budget (length s.log) h in let g : nat_le budget (length s.log) ≡ false = grind (arith, nat_tests) in g)
+    full_same false x h l = ap (λ b. cond b (unchanged s Spent) x) (let lt : length s.log < t.budget = leb-false t.budget (length s.log) h in
+        let g : nat_le budget (length s.log) ≡ false = grind (arith, nat_tests) in g)
 
     take_same : (w : ℕ) (o u : Option ℕ) → (taken t s w o u).state.log ≡ s.log ++ e ∷ [] → taken (with_budget budget t) s w o u ≡ taken t s w o u
     take_same w None None l = refl
@@ -40,7 +42,8 @@ module _ (t : FrontierSetting) (budget : ℕ) (more : t.budget ≤ budget) where
     stepped_same w (Pass id time) l = full_same (is_full t s) _ refl l
     stepped_same w (Split id place) l = split_same id place w (slice_get s.combinations id) (halved_at t s (record { worker = w; step = Split id place }) id place (slice_get s.combinations id)) refl l
       where
-        halved_same : (id place w : ℕ) (c : Combination) (o : Option (ℕ × ℕ)) → halved (with_budget budget t) s (record { worker = w; step = Split id place }) id place c.nodes o ≡ halved t s (record { worker = w; step = Split id place }) id place c.nodes o
+        halved_same : (id place w : ℕ) (c : Combination) (o : Option (ℕ × ℕ)) → halved (with_budget budget t) s (record { worker = w; step = Split id place }) id place
+            c.nodes o ≡ halved t s (record { worker = w; step = Split id place }) id place c.nodes o
         halved_same id place w c None = refl
         halved_same id place w c (Some p) = refl
 
@@ -89,9 +92,11 @@ module _ (t : FrontierSetting) (budget : ℕ) (more : t.budget ≤ budget) where
 module _ (t : FrontierSetting) (nodes : List ℕ) where
   upto : (n : ℕ) → n ≤ t.deadline → ((time : ℕ) × Passes t.wcet t.deadline t.forest.pool nodes time) ⊎ ((time : ℕ) → time ≤ n → Passes t.wcet t.deadline t.forest.pool nodes time → ⊥)
   upto zero le = inr (λ time le p. let one : 1 ≤ time = p.from in absurd (omega arith))
-  upto (suc n) le = elim (upto n (omega arith)) as (λ _. ((time : ℕ) × Passes t.wcet t.deadline t.forest.pool nodes time) ⊎ ((time : ℕ) → time ≤ suc n → Passes t.wcet t.deadline t.forest.pool nodes time → ⊥)) [
+  upto (suc n) le = elim (upto n (omega arith)) as
+      (λ _. ((time : ℕ) × Passes t.wcet t.deadline t.forest.pool nodes time) ⊎ ((time : ℕ) → time ≤ suc n → Passes t.wcet t.deadline t.forest.pool nodes time → ⊥)) [
     | inl p ↦ inl p
-    | inr none ↦ elim (sides (t.wcet + sum_at t.forest.pool nodes (suc n)) (suc n)) as (λ _. ((time : ℕ) × Passes t.wcet t.deadline t.forest.pool nodes time) ⊎ ((time : ℕ) → time ≤ suc n → Passes t.wcet t.deadline t.forest.pool nodes time → ⊥)) [
+    | inr none ↦ elim (sides (t.wcet + sum_at t.forest.pool nodes (suc n)) (suc n)) as
+        (λ _. ((time : ℕ) × Passes t.wcet t.deadline t.forest.pool nodes time) ⊎ ((time : ℕ) → time ≤ suc n → Passes t.wcet t.deadline t.forest.pool nodes time → ⊥)) [
       | inl le2 ↦ inl (suc n, record { from = omega arith; to = le; passes = le2 })
       | inr gt ↦ inr (λ time lt p. elim (last time n lt) as (λ _. ⊥) [
         | inl less ↦ none time less p
@@ -107,14 +112,16 @@ module _ (t : FrontierSetting) (nodes : List ℕ) where
       last k n le = grind arith
 
   passes_or : ((time : ℕ) × Passes t.wcet t.deadline t.forest.pool nodes time) ⊎ NonePasses t nodes
-  passes_or = elim (upto t.deadline (omega arith)) as (λ _. ((time : ℕ) × Passes t.wcet t.deadline t.forest.pool nodes time) ⊎ NonePasses t nodes) [ inl p ↦ inl p | inr none ↦ inr (λ time p. none time p.to p) ]
+  passes_or = elim (upto t.deadline (omega arith)) as (λ _. ((time : ℕ) × Passes t.wcet t.deadline t.forest.pool nodes time) ⊎ NonePasses t nodes)
+      [ inl p ↦ inl p | inr none ↦ inr (λ time p. none time p.to p) ]
 
 -- each node is a leaf, or one is a pair
 concrete_or : (t : FrontierSetting) (nodes : List ℕ) → IsConcrete t.forest nodes ⊎ ((place : ℕ) × IsPairAt t nodes place)
 concrete_or t [] = inl tt
 concrete_or t (n ∷ nodes) = by (children t.forest n) refl (concrete_or t nodes)
   where
-    by : (o : Option (ℕ × ℕ)) → children t.forest n ≡ o → IsConcrete t.forest nodes ⊎ ((place : ℕ) × IsPairAt t nodes place) → IsConcrete t.forest (n ∷ nodes) ⊎ ((place : ℕ) × IsPairAt t (n ∷ nodes) place)
+    by : (o : Option (ℕ × ℕ)) → children t.forest n ≡ o → IsConcrete t.forest nodes ⊎ ((place : ℕ) × IsPairAt t nodes place)
+        → IsConcrete t.forest (n ∷ nodes) ⊎ ((place : ℕ) × IsPairAt t (n ∷ nodes) place)
     by None e rest = elim rest as (λ _. IsConcrete t.forest (n ∷ nodes) ⊎ ((place : ℕ) × IsPairAt t (n ∷ nodes) place)) [
       | inl c ↦ inl (e, c)
       | inr p ↦ inr (suc p.0, record { node = p.1.node; left = p.1.left; right = p.1.right; at = p.1.at; children = p.1.children })
@@ -138,21 +145,26 @@ module _ (t : FrontierSetting) (s : FrontierState) (lt : length s.log < t.budget
   room : is_full t s ≡ false
   room = grind (arith, nat_tests)
 
-  logs_by : (w : ℕ) (step : FrontierStep) (x : FrontierOutcome) → stepped t s w step ≡ cond (is_full t s) (unchanged s Spent) x → x.state.log ≡ s.log ++ record { worker = w; step = step } ∷ [] → (step_of t s w step).state.log ≡ s.log ++ record { worker = w; step = step } ∷ []
+  logs_by : (w : ℕ) (step : FrontierStep) (x : FrontierOutcome) → stepped t s w step ≡ cond (is_full t s) (unchanged s Spent) x
+      → x.state.log ≡ s.log ++ record { worker = w; step = step } ∷ [] → (step_of t s w step).state.log ≡ s.log ++ record { worker = w; step = step } ∷ []
   logs_by w step x e l =
       ap (λ o. (step_by t s w step o).state.log) unfailed ∙ (ap (λ (o : FrontierOutcome). o.state.log) e ∙ (ap (λ b. (cond b (unchanged s Spent) x).state.log) room ∙ l))
 
   settle_one : (id w : ℕ) (c : Combination) → slice_get s.combinations id ≡ Some c → c.state ≡ TakenBy w → IsLogged t s
   settle_one id w c at held = elim (passes_or t c.nodes) as (λ _. IsLogged t s) [
-    | inl p ↦ record { entry = record { worker = w; step = Pass id p.0 }; can = (c, record { at = at; held = held }, p.1); logs = logs_by w (Pass id p.0) (logged_outcome s (record { worker = w; step = Pass id p.0 }) (changed id (with_state (PassedAt p.0)) s.combinations) Passed) refl refl }
+    | inl p ↦ record { entry = record { worker = w; step = Pass id p.0 }; can = (c, record { at = at; held = held }, p.1); logs = logs_by w (Pass id p.0)
+        (logged_outcome s (record { worker = w; step = Pass id p.0 }) (changed id (with_state (PassedAt p.0)) s.combinations) Passed) refl refl }
     | inr none ↦ elim (concrete_or t c.nodes) as (λ _. IsLogged t s) [
-      | inl leaves ↦ record { entry = record { worker = w; step = Fail id }; can = (c, record { at = at; held = held }, (leaves, none)); logs = logs_by w (Fail id) (logged_outcome s (record { worker = w; step = Fail id }) (changed id (with_state HasFailed) s.combinations) (Failed id)) refl refl }
+      | inl leaves ↦ record
+          { entry = record { worker = w; step = Fail id }; can = (c, record { at = at; held = held }, (leaves, none)); logs = logs_by w (Fail id)
+          (logged_outcome s (record { worker = w; step = Fail id }) (changed id (with_state HasFailed) s.combinations) (Failed id)) refl refl }
       | inr pair ↦ record {
         entry = record { worker = w; step = Split id pair.0 };
         can = (c, record { at = at; held = held }, pair.1);
         logs = logs_by w (Split id pair.0) (halved_at t s (record { worker = w; step = Split id pair.0 }) id pair.0 (slice_get s.combinations id)) refl
             (ap (λ (o : Option Combination). (halved_at t s (record { worker = w; step = Split id pair.0 }) id pair.0 o).state.log) at
-            ∙ ap (λ (o : Option (ℕ × ℕ)). (halved t s (record { worker = w; step = Split id pair.0 }) id pair.0 c.nodes o).state.log) (let q : ℕ × ℕ = (pair.1.left, pair.1.right) in let e : children_at t (slice_get c.nodes pair.0) ≡ Some q = ap (λ o. children_at t o) pair.1.at ∙ pair.1.children in e));
+            ∙ ap (λ (o : Option (ℕ × ℕ)). (halved t s (record { worker = w; step = Split id pair.0 }) id pair.0 c.nodes o).state.log)
+                (let q : ℕ × ℕ = (pair.1.left, pair.1.right) in let e : children_at t (slice_get c.nodes pair.0) ≡ Some q = ap (λ o. children_at t o) pair.1.at ∙ pair.1.children in e));
       }
     ]
   ]
@@ -165,7 +177,8 @@ module _ (t : FrontierSetting) (s : FrontierState) (lt : length s.log < t.budget
   by_taken None h (Some k) g unfinished = record {
     entry = record { worker = 0; step = Take };
     can = take_can t s 0 h;
-    logs = logs_by 0 Take (logged_outcome s (record { worker = 0; step = Take }) (changed k (with_state (TakenBy 0)) s.combinations) (Taken k)) (ap (λ o. taken t s 0 o (first is_combination_taken s.combinations)) g) refl;
+    logs = logs_by 0 Take (logged_outcome s (record { worker = 0; step = Take }) (changed k (with_state (TakenBy 0)) s.combinations) (Taken k))
+        (ap (λ o. taken t s 0 o (first is_combination_taken s.combinations)) g) refl;
   }
   by_taken None h None g unfinished =
       let yes : is_finished t s ≡ true = ap (λ o. is_none o && (is_none (first is_combination_taken s.combinations) && is_none (first is_failed s.combinations))) g
@@ -176,7 +189,8 @@ module _ (t : FrontierSetting) (s : FrontierState) (lt : length s.log < t.budget
   goes_on unfinished = by_taken (first is_combination_taken s.combinations) refl (first is_combination_pending s.combinations) refl unfinished
 
 -- a run that is neither finished nor failed can be lengthened
-pub run_longer : (t : FrontierSetting) (es : List FrontierEntry) (budget : ℕ) → IsRun t es → is_finished t (replay t es) ≡ false → first is_failed (replay t es).combinations ≡ None → t.budget ≤ budget → length es < budget → CanGoOn t budget es
+pub run_longer : (t : FrontierSetting) (es : List FrontierEntry) (budget : ℕ) → IsRun t es → is_finished t (replay t es) ≡ false
+    → first is_failed (replay t es).combinations ≡ None → t.budget ≤ budget → length es < budget → CanGoOn t budget es
 run_longer t es budget run unfinished unfailed more lt =
     let b : FrontierSetting = with_budget budget t in
     let same : IsRunFrom b (opening_state t) es × (replay_from b (opening_state t) es ≡ replay t es) = run_same t budget more es (opening_state t) run in

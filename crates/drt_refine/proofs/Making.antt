@@ -17,15 +17,20 @@ use Rattle.drt_refine.specs.declared.step.FrontierEntry.{FrontierEntry}
 use Rattle.drt_refine.proofs.Runs.{run_facts}
 
 module _ (p : Plain) (old : FrontierView) (w : ℕ) where
-  pub made : (new : FrontierView) (step : FrontierStep) (reply : FrontierReply) (out : FrontierOutcome) → outcome p old w step ≡ out → new ≡ moved old out.state → reply ≡ out.reply → IsFrontierStep p old new w step reply
+  pub made : (new : FrontierView) (step : FrontierStep) (reply : FrontierReply) (out : FrontierOutcome) → outcome p old w step ≡ out → new ≡ moved old out.state
+      → reply ≡ out.reply → IsFrontierStep p old new w step reply
   made new step reply out e n r = record { state = n ∙ ap (λ (x : FrontierOutcome). moved old x.state) (sym e); reply_is = r ∙ ap (λ (x : FrontierOutcome). x.reply) (sym e) }
 
   -- a step of a combination that the worker settles
-  pub settled : (new : FrontierView) (step : FrontierStep) (reply : FrontierReply) (k : ℕ) (x : CombinationState) → first is_failed old.combinations ≡ None → false ≡ nat_le old.budget (length old.log) →
-      stepped (setting_of p old) (state_of old) w step ≡ cond (nat_le old.budget (length old.log)) (unchanged (state_of old) Spent) (logged_outcome (state_of old) (record { worker = w; step = step }) (changed k (with_state x) old.combinations) reply) →
+  pub settled : (new : FrontierView) (step : FrontierStep) (reply : FrontierReply) (k : ℕ) (x : CombinationState) → first is_failed old.combinations ≡ None
+      → false ≡ nat_le old.budget (length old.log) →
+      stepped (setting_of p old) (state_of old) w step ≡ cond (nat_le old.budget (length old.log)) (unchanged (state_of old) Spent)
+          (logged_outcome (state_of old) (record { worker = w; step = step }) (changed k (with_state x) old.combinations) reply) →
       new ≡ moved old (record { combinations = changed k (with_state x) old.combinations; log = old.log ++ record { worker = w; step = step } ∷ [] }) → IsFrontierStep p old new w step reply
   settled new step reply k x f h e n = made new step reply (logged_outcome (state_of old) (record { worker = w; step = step }) (changed k (with_state x) old.combinations) reply)
-      (ap (λ y. step_by (setting_of p old) (state_of old) w step y) f ∙ (e ∙ ap (λ y. cond y (unchanged (state_of old) Spent) (logged_outcome (state_of old) (record { worker = w; step = step }) (changed k (with_state x) old.combinations) reply)) (sym h))) n refl
+      (ap (λ y. step_by (setting_of p old) (state_of old) w step y) f
+          ∙ (e ∙ ap (λ y. cond y (unchanged (state_of old) Spent)
+          (logged_outcome (state_of old) (record { worker = w; step = step }) (changed k (with_state x) old.combinations) reply)) (sym h))) n refl
 
 -- a step changes nothing, or adds itself to the log
 pub data Logs (s : FrontierState) (e : FrontierEntry) (x : FrontierState) : Type 0 where
@@ -53,7 +58,8 @@ module _ (t : FrontierSetting) (s : FrontierState) (w : ℕ) where
   stepped_logs : (step : FrontierStep) → Logs s (record { worker = w; step = step }) (stepped t s w step).state
   stepped_logs Take = take_logs (first is_combination_pending s.combinations) (first is_combination_taken s.combinations)
   stepped_logs (Pass id time) = cond_logs (record { worker = w; step = Pass id time }) (is_full t s) _ _ (same refl) (adds refl)
-  stepped_logs (Split id place) = cond_logs (record { worker = w; step = Split id place }) (is_full t s) _ _ (same refl) (halved_at_logs (record { worker = w; step = Split id place }) id place (slice_get s.combinations id))
+  stepped_logs (Split id place) = cond_logs (record { worker = w; step = Split id place }) (is_full t s) _ _ (same refl)
+      (halved_at_logs (record { worker = w; step = Split id place }) id place (slice_get s.combinations id))
   stepped_logs (Fail id) = cond_logs (record { worker = w; step = Fail id }) (is_full t s) _ _ (same refl) (adds refl)
 
   by_logs : (step : FrontierStep) (o : Option ℕ) → Logs s (record { worker = w; step = step }) (step_by t s w step o).state
@@ -72,7 +78,8 @@ module _ (p : Plain) (old : FrontierView) (w : ℕ) (step : FrontierStep) (front
       let entry : FrontierEntry = record { worker = w; step = step } in
       let can_then : CanStep t (replay t old.log) w step = subst (λ (s : FrontierState). CanStep t s w step) front.state can in
       let logs : (step_of t (state_of old) w step).state.log ≡ (state_of old).log ++ entry ∷ [] = ap (λ (s : FrontierState). s.log) (sym h) ∙ e in
-      let logs_then : (step_of t (replay t old.log) w step).state.log ≡ (replay t old.log).log ++ entry ∷ [] = subst (λ (s : FrontierState). (step_of t s w step).state.log ≡ s.log ++ entry ∷ []) front.state logs in
+      let logs_then : (step_of t (replay t old.log) w step).state.log ≡ (replay t old.log).log ++ entry ∷ [] = subst
+          (λ (s : FrontierState). (step_of t s w step).state.log ≡ s.log ++ entry ∷ []) front.state logs in
       let run : IsRun t (old.log ++ entry ∷ []) = run_join (after t) (CanEnter t) (λ (s : FrontierState). s.log) old.log (entry ∷ []) (opening_state t) front.run (can_then, logs_then, tt) in
       let more : replay t (old.log ++ entry ∷ []) ≡ (step_of t (replay t old.log) w step).state = replay_join (after t) old.log (entry ∷ []) (opening_state t) in
       record {

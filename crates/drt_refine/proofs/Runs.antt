@@ -32,7 +32,8 @@ module _ (t : FrontierSetting) (forest : IsForest t.forest) (roots : AreChosen t
 
   -- the facts hold after every run
   pub run_facts : (es : List FrontierEntry) → IsRun t es → Facts t (replay t es).combinations
-  run_facts es run = run_keeps (after t) (CanEnter t) (λ (s : FrontierState). s.log) (λ (s : FrontierState). Facts t s.combinations) (λ s e can facts. step_keeps t forest s e.worker facts e.step can) es (opening_state t) opening_facts run
+  run_facts es run = run_keeps (after t) (CanEnter t) (λ (s : FrontierState). s.log) (λ (s : FrontierState). Facts t s.combinations)
+      (λ s e can facts. step_keeps t forest s e.worker facts e.step can) es (opening_state t) opening_facts run
 
 and_left : (b c : Bool) → (b && c) ≡ true → b ≡ true
 and_left true c h = refl
@@ -84,7 +85,8 @@ failed_state HasFailed h = refl
 
 module _ (t : FrontierSetting) (s : FrontierState) (facts : Facts t s.combinations) where
   -- where it is finished, each tuple below the roots is below a passed combination, whose time passes for the tuple
-  pub finished_passed : ((leaf n u : ℕ) → IsUnder t.forest leaf n → value_at (node_values_in t.forest leaf) u ≤ value_at (node_values_in t.forest n) u) → is_finished t s ≡ true → (tuple : List ℕ) → AreBelow t.forest tuple t.roots → IsPassed t s.combinations tuple
+  pub finished_passed : ((leaf n u : ℕ) → IsUnder t.forest leaf n → value_at (node_values_in t.forest leaf) u ≤ value_at (node_values_in t.forest n) u)
+      → is_finished t s ≡ true → (tuple : List ℕ) → AreBelow t.forest tuple t.roots → IsPassed t s.combinations tuple
   finished_passed above h tuple below =
       let none : AreNone s = finished_none t s h in
       let o : IsStanding t s.combinations tuple = facts.covers tuple below in

@@ -41,10 +41,12 @@ module _ (t : FrontierSetting) (s : FrontierState) (w id : ℕ) (c : Combination
   settled_is (Fail k) j h e = sym (same_Some k j e) ∙ h.0
 
   pub settle_eager : (step : FrontierStep) → Settles t id c step → IsEagerStep t s (record { worker = w; step = step })
-  settle_eager step h j x e here = subst (λ (y : Combination). IsEagerFor t y step) (same_Some c x (sym at ∙ (ap (λ n. slice_get s.combinations n) (sym (settled_is step j h e)) ∙ here))) (eager_for step h)
+  settle_eager step h j x e here = subst (λ (y : Combination). IsEagerFor t y step)
+      (same_Some c x (sym at ∙ (ap (λ n. slice_get s.combinations n) (sym (settled_is step j h e)) ∙ here))) (eager_for step h)
 
 -- it settles where one is taken
-pub settle_turn : (t : FrontierSetting) (s : FrontierState) (id : ℕ) (c : Combination) → first is_combination_taken s.combinations ≡ Some id → (step : FrontierStep) → Settles t id c step → IsTurn t s step
+pub settle_turn : (t : FrontierSetting) (s : FrontierState) (id : ℕ) (c : Combination) → first is_combination_taken s.combinations ≡ Some id → (step : FrontierStep)
+    → Settles t id c step → IsTurn t s step
 settle_turn t s id c h Take g = elim g [ ]
 settle_turn t s id c h (Pass k time) g = (id, h)
 settle_turn t s id c h (Split k place) g = (id, h)

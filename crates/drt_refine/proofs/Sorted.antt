@@ -108,7 +108,8 @@ module _ (items : List CombinationState) (next : ℕ) (taken : List ℕ) (failed
           failed_is = sorted.failed_is ∙ sym (first_same is_failed_state items id f.item (Taken w) f.at (pending_unfailed f.item f.passes) refl);
         }
 
-  module _ (id : ℕ) (s state : CombinationState) (at_id : slice_get items id ≡ Some s) (was : is_taken_combination s ≡ true) (unpending : is_pending_combination state ≡ false) (untaken : is_taken_combination state ≡ false) where
+  module _ (id : ℕ) (s state : CombinationState) (at_id : slice_get items id ≡ Some s) (was : is_taken_combination s ≡ true)
+      (unpending : is_pending_combination state ≡ false) (untaken : is_taken_combination state ≡ false) where
     early : id < next
     early = elim (sides id next) as (λ _. id < next) [ inl less ↦ less | inr more ↦ absurd (clash (is_pending_combination s) (sorted.after id s more at_id) (taken_unpending s was)) ]
 

@@ -33,7 +33,8 @@ module _ (t : FrontierSetting) (forest : IsForest t.forest) where
         ]
 
   -- the combination at k gets a state that isn't Split
-  module _ (combinations : List Combination) (k : ℕ) (c : Combination) (s : CombinationState) (at : slice_get combinations k ≡ Some c) (stands : is_split_state s ≡ false) (is : IsTrueOf t c.nodes s) (facts : Facts t combinations) where
+  module _ (combinations : List Combination) (k : ℕ) (c : Combination) (s : CombinationState) (at : slice_get combinations k ≡ Some c) (stands : is_split_state s ≡ false)
+      (is : IsTrueOf t c.nodes s) (facts : Facts t combinations) where
     still : (tuple : List ℕ) → IsStanding t combinations tuple → IsStanding t (changed k (with_state s) combinations) tuple
     still tuple o =
         let a : After k (with_state s) combinations o.id o.combination = after_change k (with_state s) combinations o.id o.combination o.at in
@@ -52,19 +53,23 @@ module _ (t : FrontierSetting) (forest : IsForest t.forest) where
     }
 
   -- the combination at k is split at a pair
-  module _ (combinations : List Combination) (k : ℕ) (c : Combination) (place n l r : ℕ) (at : slice_get combinations k ≡ Some c) (node_at : slice_get c.nodes place ≡ Some n) (pair_is : children t.forest n ≡ Some (l, r)) (facts : Facts t combinations) where
-    halved_standing : (tuple : List ℕ) → AreBelow t.forest tuple (set c.nodes place l) ⊎ AreBelow t.forest tuple (set c.nodes place r) → IsStanding t (halves combinations k place (set c.nodes place l) (set c.nodes place r)) tuple
+  module _ (combinations : List Combination) (k : ℕ) (c : Combination) (place n l r : ℕ) (at : slice_get combinations k ≡ Some c)
+      (node_at : slice_get c.nodes place ≡ Some n) (pair_is : children t.forest n ≡ Some (l, r)) (facts : Facts t combinations) where
+    halved_standing : (tuple : List ℕ) → AreBelow t.forest tuple (set c.nodes place l) ⊎ AreBelow t.forest tuple (set c.nodes place r)
+        → IsStanding t (halves combinations k place (set c.nodes place l) (set c.nodes place r)) tuple
     halved_standing tuple (inl u) = record {
       id = length (changed k (with_state (SplitAt place (length combinations) (length combinations + 1))) combinations) + 0;
       combination = fresh_combination (set c.nodes place l);
-      at = after_end (changed k (with_state (SplitAt place (length combinations) (length combinations + 1))) combinations) (fresh_combination (set c.nodes place l) ∷ fresh_combination (set c.nodes place r) ∷ []) 0 (fresh_combination (set c.nodes place l)) refl;
+      at = after_end (changed k (with_state (SplitAt place (length combinations) (length combinations + 1))) combinations)
+          (fresh_combination (set c.nodes place l) ∷ fresh_combination (set c.nodes place r) ∷ []) 0 (fresh_combination (set c.nodes place l)) refl;
       stands = refl;
       below = u;
     }
     halved_standing tuple (inr u) = record {
       id = length (changed k (with_state (SplitAt place (length combinations) (length combinations + 1))) combinations) + 1;
       combination = fresh_combination (set c.nodes place r);
-      at = after_end (changed k (with_state (SplitAt place (length combinations) (length combinations + 1))) combinations) (fresh_combination (set c.nodes place l) ∷ fresh_combination (set c.nodes place r) ∷ []) 1 (fresh_combination (set c.nodes place r)) refl;
+      at = after_end (changed k (with_state (SplitAt place (length combinations) (length combinations + 1))) combinations)
+          (fresh_combination (set c.nodes place l) ∷ fresh_combination (set c.nodes place r) ∷ []) 1 (fresh_combination (set c.nodes place r)) refl;
       stands = refl;
       below = u;
     }
@@ -91,10 +96,12 @@ module _ (t : FrontierSetting) (forest : IsForest t.forest) where
 
     in_place : AreInPlace t (set c.nodes place l) × AreInPlace t (set c.nodes place r)
     in_place =
-        let two : AreChosen t.deadline t.forest.pool (set c.nodes place l) × AreChosen t.deadline t.forest.pool (set c.nodes place r) = chosen_halves t.forest forest t.deadline c.nodes place n l r node_at pair_is nodes_of.0 in
+        let two : AreChosen t.deadline t.forest.pool (set c.nodes place l) × AreChosen t.deadline t.forest.pool (set c.nodes place r) = chosen_halves t.forest forest
+            t.deadline c.nodes place n l r node_at pair_is nodes_of.0 in
         ((two.0, length_set c.nodes place l ∙ nodes_of.1), (two.1, length_set c.nodes place r ∙ nodes_of.1))
 
-    told_new : (i : ℕ) (x : Combination) → slice_get (fresh_combination (set c.nodes place l) ∷ fresh_combination (set c.nodes place r) ∷ []) i ≡ Some x → IsTrueOf t x.nodes x.state × (AreInPlace t x.nodes)
+    told_new : (i : ℕ) (x : Combination) → slice_get (fresh_combination (set c.nodes place l) ∷ fresh_combination (set c.nodes place r) ∷ []) i ≡ Some x
+        → IsTrueOf t x.nodes x.state × (AreInPlace t x.nodes)
     told_new zero x h = subst (λ (y : Combination). IsTrueOf t y.nodes y.state × (AreInPlace t y.nodes)) (same_Some (fresh_combination (set c.nodes place l)) x h)
         (tt, in_place.0)
     told_new (suc zero) x h = subst (λ (y : Combination). IsTrueOf t y.nodes y.state × (AreInPlace t y.nodes)) (same_Some (fresh_combination (set c.nodes place r)) x h)
@@ -128,12 +135,14 @@ module _ (t : FrontierSetting) (forest : IsForest t.forest) where
         let f : Found is_combination_pending s.combinations k = found is_combination_pending s.combinations k e in
         cond_keeps (is_full t s) _ _ facts (state_keeps s.combinations k f.item (TakenBy w) f.at refl tt facts)
 
-    halved_keeps : (e : FrontierEntry) (id place : ℕ) (c : Combination) (o : Option (ℕ × ℕ)) → slice_get s.combinations id ≡ Some c → (p : IsPairAt t c.nodes place) → children_at t (slice_get c.nodes place) ≡ o → Facts t (halved t s e id place c.nodes o).state.combinations
+    halved_keeps : (e : FrontierEntry) (id place : ℕ) (c : Combination) (o : Option (ℕ × ℕ)) → slice_get s.combinations id ≡ Some c → (p : IsPairAt t c.nodes place)
+        → children_at t (slice_get c.nodes place) ≡ o → Facts t (halved t s e id place c.nodes o).state.combinations
     halved_keeps e id place c None at p h = facts
     halved_keeps e id place c (Some q) at p h =
         split_keeps s.combinations id c place p.node q.0 q.1 at p.at (sym (ap (λ x. children_at t x) p.at) ∙ h) facts
 
-    halved_at_keeps : (e : FrontierEntry) (id place : ℕ) (c : Combination) (o : Option Combination) → slice_get s.combinations id ≡ Some c → IsPairAt t c.nodes place → slice_get s.combinations id ≡ o → Facts t (halved_at t s e id place o).state.combinations
+    halved_at_keeps : (e : FrontierEntry) (id place : ℕ) (c : Combination) (o : Option Combination) → slice_get s.combinations id ≡ Some c → IsPairAt t c.nodes place
+        → slice_get s.combinations id ≡ o → Facts t (halved_at t s e id place o).state.combinations
     halved_at_keeps e id place c None at p h = facts
     halved_at_keeps e id place c (Some d) at p h =
         let same : c ≡ d = same_Some c d (sym at ∙ h) in
@@ -142,7 +151,8 @@ module _ (t : FrontierSetting) (forest : IsForest t.forest) where
     stepped_keeps : (step : FrontierStep) → CanStep t s w step → Facts t (stepped t s w step).state.combinations
     stepped_keeps Take can = take_keeps (first is_combination_pending s.combinations) (first is_combination_taken s.combinations) refl
     stepped_keeps (Pass id time) can = cond_keeps (is_full t s) _ _ facts (state_keeps s.combinations id can.0 (PassedAt time) can.1.at refl can.2 facts)
-    stepped_keeps (Split id place) can = cond_keeps (is_full t s) _ _ facts (halved_at_keeps (record { worker = w; step = Split id place }) id place can.0 (slice_get s.combinations id) can.1.at can.2 refl)
+    stepped_keeps (Split id place) can = cond_keeps (is_full t s) _ _ facts
+        (halved_at_keeps (record { worker = w; step = Split id place }) id place can.0 (slice_get s.combinations id) can.1.at can.2 refl)
     stepped_keeps (Fail id) can = cond_keeps (is_full t s) _ _ facts (state_keeps s.combinations id can.0 HasFailed can.1.at refl can.2 facts)
 
     step_by_keeps : (step : FrontierStep) (o : Option ℕ) → CanStep t s w step → Facts t (step_by t s w step o).state.combinations

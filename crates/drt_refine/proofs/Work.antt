@@ -40,9 +40,11 @@ module _ (t : FrontierSetting) (forest : IsForest t.forest) (some : (n : ℕ) �
     either_bounded false x y p q = q
 
     -- one combination gets a state
-    one_more : (k : ℕ) (c : Combination) (x : CombinationState) (e : FrontierEntry) → slice_get s.combinations k ≡ Some c → left_of t (tuples t.forest c.nodes) x + 1 ≤ left t c → IsBounded t (record { combinations = changed k (with_state x) s.combinations; log = s.log ++ e ∷ [] })
+    one_more : (k : ℕ) (c : Combination) (x : CombinationState) (e : FrontierEntry) → slice_get s.combinations k ≡ Some c
+        → left_of t (tuples t.forest c.nodes) x + 1 ≤ left t c → IsBounded t (record { combinations = changed k (with_state x) s.combinations; log = s.log ++ e ∷ [] })
     one_more k c x e at p =
-        let a : total (left t) (changed k (with_state x) s.combinations) + left t c ≡ total (left t) s.combinations + left_of t (tuples t.forest c.nodes) x = total_changed (left t) k (with_state x) s.combinations c at in
+        let a : total (left t) (changed k (with_state x) s.combinations) + left t c ≡ total (left t) s.combinations + left_of t (tuples t.forest c.nodes)
+            x = total_changed (left t) k (with_state x) s.combinations c at in
         more s e (changed k (with_state x) s.combinations) bounded (omega arith)
 
     left_held : (c : Combination) → c.state ≡ TakenBy w → left t c ≡ 4 * tuples t.forest c.nodes - 3
@@ -55,9 +57,12 @@ module _ (t : FrontierSetting) (forest : IsForest t.forest) (some : (n : ℕ) �
         let f : Found is_combination_pending s.combinations k = found is_combination_pending s.combinations k e in
         let a : left t f.item ≡ 4 * tuples t.forest f.item.nodes - 2 = left_pending (tuples t.forest f.item.nodes) f.item.state f.passes in
         let p : 1 ≤ tuples t.forest f.item.nodes = tuples_some t.forest forest some f.item.nodes in
-        either_bounded (is_full t s) _ _ bounded (one_more k f.item (TakenBy w) (record { worker = w; step = Take }) f.at (let g : left_of t (tuples t.forest f.item.nodes) (TakenBy w) ≡ 4 * tuples t.forest f.item.nodes - 3 = refl in omega arith))
+        either_bounded (is_full t s) _ _ bounded
+            (one_more k f.item (TakenBy w) (record { worker = w; step = Take }) f.at
+            (let g : left_of t (tuples t.forest f.item.nodes) (TakenBy w) ≡ 4 * tuples t.forest f.item.nodes - 3 = refl in omega arith))
 
-    halved_bounded : (e : FrontierEntry) (id place : ℕ) (c : Combination) (o : Option (ℕ × ℕ)) → slice_get s.combinations id ≡ Some c → c.state ≡ TakenBy w → (p : IsPairAt t c.nodes place) → children_at t (slice_get c.nodes place) ≡ o → IsBounded t (halved t s e id place c.nodes o).state
+    halved_bounded : (e : FrontierEntry) (id place : ℕ) (c : Combination) (o : Option (ℕ × ℕ)) → slice_get s.combinations id ≡ Some c → c.state ≡ TakenBy w
+        → (p : IsPairAt t c.nodes place) → children_at t (slice_get c.nodes place) ≡ o → IsBounded t (halved t s e id place c.nodes o).state
     halved_bounded e id place c None at held p h = bounded
     halved_bounded e id place c (Some q) at held p h =
         let x = SplitAt place (length s.combinations) (length s.combinations + 1) in
@@ -74,13 +79,16 @@ module _ (t : FrontierSetting) (forest : IsForest t.forest) (some : (n : ℕ) �
         let r : total (left t) rest ≡ (4 * tuples t.forest ln - 2) + ((4 * tuples t.forest rn - 2) + 0) = refl in
         more s e (front ++ rest) bounded (omega arith)
 
-    halved_at_bounded : (e : FrontierEntry) (id place : ℕ) (c : Combination) (o : Option Combination) → slice_get s.combinations id ≡ Some c → c.state ≡ TakenBy w → IsPairAt t c.nodes place → slice_get s.combinations id ≡ o → IsBounded t (halved_at t s e id place o).state
+    halved_at_bounded : (e : FrontierEntry) (id place : ℕ) (c : Combination) (o : Option Combination) → slice_get s.combinations id ≡ Some c → c.state ≡ TakenBy w
+        → IsPairAt t c.nodes place → slice_get s.combinations id ≡ o → IsBounded t (halved_at t s e id place o).state
     halved_at_bounded e id place c None at held p h = bounded
     halved_at_bounded e id place c (Some d) at held p h =
         let same : c ≡ d = same_Some c d (sym at ∙ h) in
-        halved_bounded e id place d (children_at t (slice_get d.nodes place)) h (subst (λ (x : Combination). x.state ≡ TakenBy w) same held) (subst (λ (x : Combination). IsPairAt t x.nodes place) same p) refl
+        halved_bounded e id place d (children_at t (slice_get d.nodes place)) h (subst (λ (x : Combination). x.state ≡ TakenBy w) same held)
+            (subst (λ (x : Combination). IsPairAt t x.nodes place) same p) refl
 
-    settled_bounded : (k : ℕ) (c : Combination) (x : CombinationState) (e : FrontierEntry) → slice_get s.combinations k ≡ Some c → c.state ≡ TakenBy w → left_of t (tuples t.forest c.nodes) x ≡ 0 → IsBounded t (record { combinations = changed k (with_state x) s.combinations; log = s.log ++ e ∷ [] })
+    settled_bounded : (k : ℕ) (c : Combination) (x : CombinationState) (e : FrontierEntry) → slice_get s.combinations k ≡ Some c → c.state ≡ TakenBy w
+        → left_of t (tuples t.forest c.nodes) x ≡ 0 → IsBounded t (record { combinations = changed k (with_state x) s.combinations; log = s.log ++ e ∷ [] })
     settled_bounded k c x e at held z =
         let lh : left t c ≡ 4 * tuples t.forest c.nodes - 3 = left_held c held in
         let p : 1 ≤ tuples t.forest c.nodes = tuples_some t.forest forest some c.nodes in
@@ -89,7 +97,8 @@ module _ (t : FrontierSetting) (forest : IsForest t.forest) (some : (n : ℕ) �
     stepped_bounded : (step : FrontierStep) → CanStep t s w step → IsBounded t (stepped t s w step).state
     stepped_bounded Take can = take_bounded (first is_combination_pending s.combinations) (first is_combination_taken s.combinations) refl
     stepped_bounded (Pass id time) can = either_bounded (is_full t s) _ _ bounded (settled_bounded id can.0 (PassedAt time) (record { worker = w; step = Pass id time }) can.1.at can.1.held refl)
-    stepped_bounded (Split id place) can = either_bounded (is_full t s) _ _ bounded (halved_at_bounded (record { worker = w; step = Split id place }) id place can.0 (slice_get s.combinations id) can.1.at can.1.held can.2 refl)
+    stepped_bounded (Split id place) can = either_bounded (is_full t s) _ _ bounded
+        (halved_at_bounded (record { worker = w; step = Split id place }) id place can.0 (slice_get s.combinations id) can.1.at can.1.held can.2 refl)
     stepped_bounded (Fail id) can = either_bounded (is_full t s) _ _ bounded (settled_bounded id can.0 HasFailed (record { worker = w; step = Fail id }) can.1.at can.1.held refl)
 
     step_by_bounded : (step : FrontierStep) (o : Option ℕ) → CanStep t s w step → IsBounded t (step_by t s w step o).state
@@ -107,7 +116,8 @@ module _ (t : FrontierSetting) (forest : IsForest t.forest) (some : (n : ℕ) �
       g
 
   pub run_bounded : (es : List FrontierEntry) → IsRun t es → IsBounded t (replay t es)
-  run_bounded es run = run_keeps (after t) (CanEnter t) (λ (s : FrontierState). s.log) (λ (s : FrontierState). IsBounded t s) (λ s e can bounded. step_bounded s e.worker bounded e.step can) es (opening_state t) opening_bounded run
+  run_bounded es run = run_keeps (after t) (CanEnter t) (λ (s : FrontierState). s.log) (λ (s : FrontierState). IsBounded t s)
+      (λ s e can bounded. step_bounded s e.worker bounded e.step can) es (opening_state t) opening_bounded run
 
   -- a run has fewer than four entries for each tuple below the roots
   pub run_short : (es : List FrontierEntry) → IsRun t es → length es + 2 ≤ 4 * tuples t.forest t.roots

@@ -34,7 +34,8 @@ pub record IsStep (g : Digraph) (k t : ℕ) (whole items : List Release) (x u : 
   pub built : items ++ after g k x u rest ≡ whole
 
 -- The first step.
-pub started : (g : Digraph) (k t : ℕ) (items : List Release) (u : ℕ) (walk : List ℕ) → IsWalk g walk → due_of g walk ≤ t → 0 < length walk → u ≡ get_or walk 0 u → IsStep g k t (items ++ releases_of g k walk) (items ++ release_at g k 0 u ∷ []) 0 u (drop 1 walk)
+pub started : (g : Digraph) (k t : ℕ) (items : List Release) (u : ℕ) (walk : List ℕ) → IsWalk g walk → due_of g walk ≤ t → 0 < length walk → u ≡ get_or walk 0 u
+    → IsStep g k t (items ++ releases_of g k walk) (items ++ release_at g k 0 u ∷ []) 0 u (drop 1 walk)
 started g k t items u [] is due some at = absurd (omega arith)
 started g k t items u (v ∷ vs) is due some at =
     subst (λ w. IsStep g k t (items ++ releases_from g k 0 v vs) (items ++ release_at g k 0 w ∷ []) 0 w vs) (sym at) (record {
@@ -45,7 +46,8 @@ started g k t items u (v ∷ vs) is due some at =
     })
 
 -- The next one.
-pub stepped : (g : Digraph) → IsSoundGraph g → (k t : ℕ) (whole items : List Release) (x u v : ℕ) (rest : List ℕ) → IsStep g k t whole items x u (v ∷ rest) → IsStep g k t whole (items ++ release_at g k (x + gap g u v) v ∷ []) (x + gap g u v) v rest
+pub stepped : (g : Digraph) → IsSoundGraph g → (k t : ℕ) (whole items : List Release) (x u v : ℕ) (rest : List ℕ) → IsStep g k t whole items x u (v ∷ rest)
+    → IsStep g k t whole (items ++ release_at g k (x + gap g u v) v ∷ []) (x + gap g u v) v rest
 stepped g sound k t whole items x u v rest step =
     let y = x + gap g u v in
     record {
@@ -93,7 +95,8 @@ module _ (g : Digraph) (sound : IsSoundGraph g) (k t : ℕ) (few : k ≤ 4294967
   walk_in_range (u ∷ vs) is due = from_in_range 0 u vs is.0 is.1 (omega arith)
 
 -- The releases of walks that are due by t are in range.
-pub all_in_range : (tasks : List Task) (walks : ℕ → List ℕ) (t : ℕ) → AreGraphs (graphs_of tasks) → AreWalks tasks walks → AreDueBy tasks walks t → t ≤ 1000000000000000000 → (n : ℕ) → n ≤ length tasks → All IsInRangeRelease (all_releases tasks walks n)
+pub all_in_range : (tasks : List Task) (walks : ℕ → List ℕ) (t : ℕ) → AreGraphs (graphs_of tasks) → AreWalks tasks walks → AreDueBy tasks walks t
+    → t ≤ 1000000000000000000 → (n : ℕ) → n ≤ length tasks → All IsInRangeRelease (all_releases tasks walks n)
 unfolding all_releases
 all_in_range tasks walks t graphs are due near zero l = All-nil IsInRangeRelease
 all_in_range tasks walks t graphs are due near (suc n) l =

@@ -38,7 +38,8 @@ module _ (policy : Policy) (jobs : List Job) (now : ℕ) (lefts : List ℕ) (sho
           run_left = jump_left policy jobs now lefts shown j count runs (calm count in_time) some enough
 
           pub run_picks : (i : ℕ) → now ≤ i → i < now + count → pick policy jobs i ≡ Some j
-          run_picks i from until = runs_through policy jobs now j runs count (calm count in_time) (omega (arith, run_here, shown.as_many, shown.each j (omega (arith, run_here, shown.as_many)))) i from until
+          run_picks i from until = runs_through policy jobs now j runs count (calm count in_time)
+              (omega (arith, run_here, shown.as_many, shown.each j (omega (arith, run_here, shown.as_many)))) i from until
 
           pub run_finishes : (ends : List ℕ) → AreFinishes policy jobs now lefts ends
               → AreFinishes policy jobs (now + count) (set lefts j (get_or lefts j 0 - count)) (cond (eqb (get_or lefts j 0) count) (set ends j (now + count)) ends)

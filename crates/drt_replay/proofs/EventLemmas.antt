@@ -108,7 +108,8 @@ module _ (policy : Policy) (jobs : List Job) (n : ℕ) where
               let reached : done policy jobs j (n + m) ≡ (job_at jobs j).need = omega (arith, r.runs m (omega arith), shown.each j here) in
               let finish : IsFinish policy jobs j (n + m) = record {
                 reached = reached;
-                least = λ x d. elim (cases_lt x (n + m)) [ inr ge ↦ ge | inl lt ↦ absurd (omega (arith, done_mono_le policy jobs j x (n + (m - 1)) (omega arith), before, r.runs m (omega arith), reached, d)) ];
+                least = λ x d. elim (cases_lt x (n + m))
+                    [ inr ge ↦ ge | inl lt ↦ absurd (omega (arith, done_mono_le policy jobs j x (n + (m - 1)) (omega arith), before, r.runs m (omega arith), reached, d)) ];
               } in
               subst (λ i. IsFinish policy jobs i (get_or (set ends j (n + m)) i 0) × (get_or (set ends j (n + m)) i 0 ≤ n + m)) s
               (rw (get_or-set_same ends j (n + m) 0 (omega (arith, ok.as_many))) (finish, omega arith)))

@@ -19,7 +19,8 @@ late_by policy jobs ticks j (Some n) f h =
       | inr ne ↦ omega (arith, done-le-need policy jobs j (job_at jobs j).deadline, ne)
     ]
 
-late_by_from : (policy : Policy) (jobs : List Job) (ticks j : ℕ) (o : Option ℕ) → IsFinishSoFar policy jobs ticks j o → Misses policy jobs j → (job_at jobs j).deadline ≤ ticks → IsLateBy (job_at jobs j) o ticks
+late_by_from : (policy : Policy) (jobs : List Job) (ticks j : ℕ) (o : Option ℕ) → IsFinishSoFar policy jobs ticks j o → Misses policy jobs j
+    → (job_at jobs j).deadline ≤ ticks → IsLateBy (job_at jobs j) o ticks
 late_by_from policy jobs ticks j None f m d = (d, tt)
 late_by_from policy jobs ticks j (Some n) f m d = (
   d,
@@ -55,7 +56,8 @@ module _ (shown : Shown) (j : ℕ) (h : j < length shown.jobs) (finish : Option 
     ],
   )
 
-  pub below-late : (first : Option ℕ) (r : ℕ) → FirstBelow shown j first → IsLateBy (job_at shown.jobs j) finish shown.ticks → MatchOption first (r ≡ j) (λ k. IsEarlier shown.jobs k j r) → FirstBelow shown (j + 1) (Some r)
+  pub below-late : (first : Option ℕ) (r : ℕ) → FirstBelow shown j first → IsLateBy (job_at shown.jobs j) finish shown.ticks
+      → MatchOption first (r ≡ j) (λ k. IsEarlier shown.jobs k j r) → FirstBelow shown (j + 1) (Some r)
   below-late None r f l e = (
     omega arith,
     subst (IsLate shown) (sym e) (is_late_if l),
@@ -101,18 +103,21 @@ first_miss_if shown j m f e = record {
   first = λ k late. rw e (no_later_miss shown.jobs j k (f.first k late));
 }
 
-pub miss_parts : (jobs : List Job) (j t i d : ℕ) → t ≡ (job_at jobs j).task → i ≡ index_of jobs j → d ≡ (job_at jobs j).deadline → ◌≡◌ {A = Miss} (record { task = t; index = i; deadline = d }) (miss_of jobs j)
+pub miss_parts : (jobs : List Job) (j t i d : ℕ) → t ≡ (job_at jobs j).task → i ≡ index_of jobs j → d ≡ (job_at jobs j).deadline
+    → ◌≡◌ {A = Miss} (record { task = t; index = i; deadline = d }) (miss_of jobs j)
 miss_parts jobs j t i d e f g = rw (e, f, g)
 
 -- the index of a job of a task, by a count over that task
 pub index_of_task : (jobs : List Job) (task j : ℕ) → (job_at jobs j).task ≡ task → index_of jobs j ≡ count_by (λ job. job.task == task) (take j jobs)
 index_of_task jobs task j e = rw e refl
 
-count_at : (jobs : List Job) (task j k : ℕ) → (job_at jobs j).task ≡ task → j < k → k ≤ length jobs → count_by (λ job. job.task == task) (take j jobs) < count_by (λ job. job.task == task) (take k jobs)
+count_at : (jobs : List Job) (task j k : ℕ) → (job_at jobs j).task ≡ task → j < k → k ≤ length jobs
+    → count_by (λ job. job.task == task) (take j jobs) < count_by (λ job. job.task == task) (take k jobs)
 count_at jobs task j k e h l =
     let p : Job → Bool = λ job. job.task == task in
     let more = count_by_more_yes p jobs j (record { task = 0; priority = 0; time = 0; deadline = 0; need = 0 }) (omega arith) (eq-eqb (job_at jobs j).task task e) in
-    let le : count_by p (take (j + 1) jobs) ≤ count_by p (take k jobs) = subst (λ xs. count_by p xs ≤ count_by p (take k jobs)) (take-take (j + 1) k jobs (omega arith)) (sum_by-take-le (λ job. cond (p job) 1 0) (take k jobs) (j + 1)) in
+    let le : count_by p (take (j + 1) jobs) ≤ count_by p (take k jobs) = subst (λ xs. count_by p xs ≤ count_by p (take k jobs)) (take-take (j + 1) k jobs (omega arith))
+        (sum_by-take-le (λ job. cond (p job) 1 0) (take k jobs) (j + 1)) in
     omega (arith, more, le)
 
 -- a task and an index name one job

@@ -56,7 +56,8 @@ less_left lefts j m k z = elim (cases_eq k j) [
 ]
 
 module _ (policy : Policy) (jobs : List Job) (now : ℕ) (lefts : List ℕ) where
-  pub queued_moved : (w : List Stretch) (r : HeldKeys) (w' : List Stretch) (r' : HeldKeys) → IsQueued policy jobs now lefts w r → IsMoved policy jobs now w r w' r' → IsQueued policy jobs now lefts w' r'
+  pub queued_moved : (w : List Stretch) (r : HeldKeys) (w' : List Stretch) (r' : HeldKeys) → IsQueued policy jobs now lefts w r → IsMoved policy jobs now w r w' r'
+      → IsQueued policy jobs now lefts w' r'
   queued_moved w r w' r' q m = record {
     waits = m.waits;
     readies = m.readies;
@@ -127,7 +128,8 @@ module _ (policy : Policy) (jobs : List Job) (now : ℕ) (lefts : List ℕ) wher
     ]
 
   -- later, and with less left of some job
-  pub queued_later : (w : List Stretch) (r : HeldKeys) → IsQueued policy jobs now lefts w r → (after : ℕ) → now ≤ after → (j m : ℕ) → IsQueued policy jobs after (set lefts j (get_or lefts j 0 - m)) w r
+  pub queued_later : (w : List Stretch) (r : HeldKeys) → IsQueued policy jobs now lefts w r → (after : ℕ) → now ≤ after → (j m : ℕ)
+      → IsQueued policy jobs after (set lefts j (get_or lefts j 0 - m)) w r
   queued_later w r q after h j m = record {
     waits = q.waits;
     readies = λ i d l. (let ready = q.readies i d l in record { here = ready.here; is = ready.is; released = omega (arith, ready.released) });

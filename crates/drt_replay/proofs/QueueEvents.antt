@@ -80,7 +80,8 @@ module _ (lefts : List ℕ) (old mid new : HeldKeys) (cleared : IsCleared lefts 
               | inl e ↦ inr (subst (λ y. get_or lefts y.0.place 0 ≡ 0) e over')
             ]
           ];
-          among = λ x c. cleared.among x (Contains-permutation (entry k ∷ new.items) mid.items (entry x) (IsPermutation-sym mid.items (entry k ∷ new.items) p.rest) (Contains-later (entry k) new.items (entry x) c));
+          among = λ x c. cleared.among x
+              (Contains-permutation (entry k ∷ new.items) mid.items (entry x) (IsPermutation-sym mid.items (entry k ∷ new.items) p.rest) (Contains-later (entry k) new.items (entry x) c));
           fewer = omega (arith, long, cleared.fewer);
           room = p.room ∙ cleared.room;
         },

@@ -46,7 +46,8 @@ empty_if [] h = refl
 empty_if (x ∷ xs) h = absurd (omega arith)
 
 -- what `peek` says
-pub peeked : (items : List (Reverse Key)) (o : Option (Bor (Reverse Key))) → IsItemAt items 0 o → IfSome o (λ x. IsHeap compare items → IsUpperBound compare x.now items) → IsHeap compare items → MatchOption o (items ≡ []) (λ r. IsFirstKey items r.now.0)
+pub peeked : (items : List (Reverse Key)) (o : Option (Bor (Reverse Key))) → IsItemAt items 0 o → IfSome o (λ x. IsHeap compare items → IsUpperBound compare x.now items)
+    → IsHeap compare items → MatchOption o (items ≡ []) (λ r. IsFirstKey items r.now.0)
 peeked items None at bound ok = empty_if items (omega (arith, at.3))
 peeked items (Some x) at bound ok = record {
   member = (0, at.3.0, sym (at.3.1 x.now));
@@ -74,6 +75,7 @@ held_is a b e f =
     let right = ap (λ n. let h : HeldKeys = record { items = b.items; room = n } in h) f in
     left ∙ right
 
-pub popped_none : (old new : HeldKeys) (o : Option (Reverse Key)) (len : ℕ) (L : Type 0) → length old.items ≡ len → IfNone o (len ≡ 0) → IfNone o ((new.items ≡ old.items) × L) → new.room ≡ old.room → IfNone o ((new ≡ old) × (old.items ≡ []))
+pub popped_none : (old new : HeldKeys) (o : Option (Reverse Key)) (len : ℕ) (L : Type 0) → length old.items ≡ len → IfNone o (len ≡ 0)
+    → IfNone o ((new.items ≡ old.items) × L) → new.room ≡ old.room → IfNone o ((new ≡ old) × (old.items ≡ []))
 popped_none old new None len L is none same room = (held_is new old same.0 room, empty_if old.items (omega arith))
 popped_none old new (Some x) len L is none same room = tt

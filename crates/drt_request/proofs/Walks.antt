@@ -23,12 +23,16 @@ span_more g u (w ∷ vs) v = let e : span g w (vs ++ v ∷ []) ≡ span g w vs +
 same_test : (a b t w : ℕ) → a ≡ b → cond (nat_lt a t) w 0 ≡ cond (nat_lt b t) w 0
 same_test a b t w e = ap (λ z. cond (nat_lt z t) w 0) e
 
-requested_more : (g : Digraph) (offset u : ℕ) (vs : List ℕ) (v t : ℕ) → requested_from g offset u (vs ++ v ∷ []) t ≡ requested_from g offset u vs t + cond (nat_lt (offset + (span g u vs + gap g (last_of u vs) v)) t) (wcet g v) 0
+requested_more : (g : Digraph) (offset u : ℕ) (vs : List ℕ) (v t : ℕ)
+    → requested_from g offset u (vs ++ v ∷ []) t ≡ requested_from g offset u vs t + cond (nat_lt (offset + (span g u vs + gap g (last_of u vs) v)) t) (wcet g v) 0
 unfolding requested_from span
 requested_more g offset u [] v t = ap (λ z. cond (nat_lt offset t) (wcet g u) 0 + z) (same_test (offset + gap g u v) (offset + (0 + gap g u v)) t (wcet g v) (omega arith))
 requested_more g offset u (w ∷ vs) v t =
-    let e : requested_from g (offset + gap g u w) w (vs ++ v ∷ []) t ≡ requested_from g (offset + gap g u w) w vs t + cond (nat_lt ((offset + gap g u w) + (span g w vs + gap g (last_of w vs) v)) t) (wcet g v) 0 = requested_more g (offset + gap g u w) w vs v t in
-    let s : cond (nat_lt ((offset + gap g u w) + (span g w vs + gap g (last_of w vs) v)) t) (wcet g v) 0 ≡ cond (nat_lt (offset + ((gap g u w + span g w vs) + gap g (last_of w vs) v)) t) (wcet g v) 0 = same_test ((offset + gap g u w) + (span g w vs + gap g (last_of w vs) v)) (offset + ((gap g u w + span g w vs) + gap g (last_of w vs) v)) t (wcet g v) (omega arith) in
+    let e : requested_from g (offset + gap g u w) w (vs ++ v ∷ []) t ≡ requested_from g (offset + gap g u w) w vs t + cond
+        (nat_lt ((offset + gap g u w) + (span g w vs + gap g (last_of w vs) v)) t) (wcet g v) 0 = requested_more g (offset + gap g u w) w vs v t in
+    let s : cond (nat_lt ((offset + gap g u w) + (span g w vs + gap g (last_of w vs) v)) t) (wcet g v) 0 ≡ cond
+        (nat_lt (offset + ((gap g u w + span g w vs) + gap g (last_of w vs) v)) t) (wcet g v) 0 = same_test
+        ((offset + gap g u w) + (span g w vs + gap g (last_of w vs) v)) (offset + ((gap g u w + span g w vs) + gap g (last_of w vs) v)) t (wcet g v) (omega arith) in
     omega arith
 
 at_raised_all : (w : ℕ) (xs : List ℕ) (i : ℕ) → i < length xs → slice_index (raise 0 w xs) i ≡ slice_index xs i + w
@@ -74,7 +78,8 @@ span_none : (g : Digraph) (u : ℕ) → 0 ≡ span g u []
 unfolding span
 span_none g u = refl
 
-extended : (g : Digraph) (bound u : ℕ) (vs : List ℕ) (v : ℕ) (x : Request) → IsRequestLabelOf g bound u vs x → IsRequestLabelOf g bound u (vs ++ v ∷ []) (request_algebra.extend x (gap g (last_of u vs) v) v (wcet g v))
+extended : (g : Digraph) (bound u : ℕ) (vs : List ℕ) (v : ℕ) (x : Request) → IsRequestLabelOf g bound u vs x
+    → IsRequestLabelOf g bound u (vs ++ v ∷ []) (request_algebra.extend x (gap g (last_of u vs) v) v (wcet g v))
 extended g bound u vs v x h =
     let p : ℕ = gap g (last_of u vs) v in
     let e : x.offset ≡ span g u vs = h.offset in

@@ -33,7 +33,8 @@ module _ (tasks : List Task) (walks : List (List ℕ)) (k v n : ℕ) where
   unfolding with_job
   walk_nowhere i le ne = rw (le-ltb (task_at tasks i).priority (task_at tasks k).priority le, ne_eqb i k ne) refl
 
-  module _ (graphs : AreGraphs (graphs_of tasks)) (are : AreWalks tasks (walk_in_priority_order tasks walks)) (here : k < length tasks) (vertex : v < vertex_count (graph_at tasks k)) (small : n ≤ most_time) where
+  module _ (graphs : AreGraphs (graphs_of tasks)) (are : AreWalks tasks (walk_in_priority_order tasks walks)) (here : k < length tasks)
+      (vertex : v < vertex_count (graph_at tasks k)) (small : n ≤ most_time) where
     sound_at : (i : ℕ) → i < length tasks → IsSoundGraph (graph_at tasks i)
     sound_at i l = subst IsSoundGraph (graph_same tasks i l) (graphs.sound i no_graph (omega (arith, length-map tasks digraph_of)))
 
@@ -55,7 +56,8 @@ module _ (tasks : List Task) (walks : List (List ℕ)) (k v n : ℕ) where
     ]
 
     -- Walks that are the same.
-    pub due_walks : (others : ℕ → List ℕ) → ((i : ℕ) → i < length tasks → others i ≡ job_walk_in_priority_order tasks walks k v n i) → (gs : List Digraph) → gs ≡ graphs_of tasks → AreDueWalks gs others 2000000
+    pub due_walks : (others : ℕ → List ℕ) → ((i : ℕ) → i < length tasks → others i ≡ job_walk_in_priority_order tasks walks k v n i) → (gs : List Digraph)
+        → gs ≡ graphs_of tasks → AreDueWalks gs others 2000000
     due_walks others same gs is i l =
         let m : i < length tasks = omega (arith, l, ap length is, length-map tasks digraph_of) in
         let e : graph_of gs i ≡ graph_at tasks i = ap (λ xs. graph_of xs i) is ∙ graph_same tasks i m in

@@ -61,7 +61,8 @@ module _ (version : ℕ) (tasks : List Task) (limits : IsTaskSet version tasks) 
   placed_are_walks j l = each_ordered (λ x. IsWalk (digraph_of x.0) x.1) tasks (walk_in_priority_order tasks walks) both.1 j l
 
   -- What they ask for is what the list asks for.
-  pub placed_asked : (t : ℕ) → requests tasks (walk_in_priority_order tasks walks) (task_at tasks k).priority (length tasks) t ≡ asked_together (graphs_of_places (higher_places tasks (task_at tasks k))) walks t
+  pub placed_asked : (t : ℕ) → requests tasks (walk_in_priority_order tasks walks) (task_at tasks k).priority (length tasks) t ≡ asked_together
+      (graphs_of_places (higher_places tasks (task_at tasks k))) walks t
   placed_asked t =
       let chosen : ℕ → List ℕ = walk_in_priority_order tasks walks in
       let ps = ap (λ qs. asked_together (graphs_of_places qs) walks t) (sym (higher_are tasks chosen k task)) in

@@ -129,7 +129,8 @@ some_heading xs range (Opens o) is =
     let s = some_begun xs (r ∷ []) range (one_response o [] is (All-nil IsInRangeRelease, omega arith)) in
     (xs ++ r ∷ [], s.0, ap heading_at s.1)
 
-pub heading_stop : {xs : List Response} {bytes mid : List ℕ} {e : Stop} → RowsAt xs bytes mid → IsResponsesStop (λ y. written_line (heading_line y)) IsInRangeHeading mid e → IsResponsesStop rows_block AreResponsesInRange bytes e
+pub heading_stop : {xs : List Response} {bytes mid : List ℕ} {e : Stop} → RowsAt xs bytes mid
+    → IsResponsesStop (λ y. written_line (heading_line y)) IsInRangeHeading mid e → IsResponsesStop rows_block AreResponsesInRange bytes e
 heading_stop {xs} a i =
     stop (λ ys. heading_at (drop (length xs) ys)) (λ ys. behind_heading (drop (length xs) ys)) (λ ys b. heading_parts (drop (length xs) ys) (left_in_range xs ys b))
     (some_heading xs a.in_range) a.here i

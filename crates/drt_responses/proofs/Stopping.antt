@@ -161,7 +161,8 @@ each_stop {X} {T} {D} {n} {bytes} {mid} {xs} {e} count lt some some_is r i = rec
     }
 
 -- The line of a count, and so many blocks below it.
-count_parts : {X : Type 0} (word : List ℕ) (T : X → List ℕ) (D : X → Type 0) (xs : List X) → AreItemsCounted D xs → IsNumber (length xs) × (count_and_blocks word T xs ≡ written_line (count_line word (length xs)) ++ in_turn T xs)
+count_parts : {X : Type 0} (word : List ℕ) (T : X → List ℕ) (D : X → Type 0) (xs : List X) → AreItemsCounted D xs
+    → IsNumber (length xs) × (count_and_blocks word T xs ≡ written_line (count_line word (length xs)) ++ in_turn T xs)
 count_parts word T D xs is = (is.1, refl)
 
 pub count_stop : {X : Type 0} {bytes : List ℕ} {e : Stop} (T : X → List ℕ) (D : X → Type 0) (word : List ℕ) → (x : X) → D x
@@ -246,7 +247,8 @@ none_taken {X} {T} {fields} {In} kind rest e r is missing =
     passed r e (IsResponsesStop (λ y. written_line (fields y)) In rest) is (line_missing fields In rest e kind missing.0 missing.1)
 
 -- A stop that is passed on.
-pub passed_stop : {X R : Type 0} {T : X → List ℕ} {D : X → Type 0} {bytes : List ℕ} {e : Stop} → (r : Result R Stop) → IsErrAnd r (λ y. y ≡ e) → IsResponsesStop T D bytes e → IfErr r (IsResponsesStop T D bytes)
+pub passed_stop : {X R : Type 0} {T : X → List ℕ} {D : X → Type 0} {bytes : List ℕ} {e : Stop} → (r : Result R Stop) → IsErrAnd r (λ y. y ≡ e)
+    → IsResponsesStop T D bytes e → IfErr r (IsResponsesStop T D bytes)
 passed_stop {T = T} {D = D} {bytes = bytes} {e = e} r is stops_here = passed r e (IsResponsesStop T D bytes) is stops_here
 
 -- What is found in the first line is taken.

@@ -108,7 +108,8 @@ followed_at bytes s b rest line r at =
     let number : line ≡ length ls + 1 = omega (arith, at) in
     let w = some_first b rest in
     let first : first_lines line bytes ≡ response_text s ++ (b ∷ w.0)
-    = ap (λ n. first_lines n bytes) number ∙ ap (first_lines (length ls + 1)) stands ∙ first_more ls (b ∷ rest) 1 r.lines.no_feeds ∙ ap (λ t. fed ls ++ t) w.1 ∙ ap (λ t. t ++ (b ∷ w.0)) (sym r.lines.are) in
+    = ap (λ n. first_lines n bytes) number ∙ ap (first_lines (length ls + 1)) stands ∙ first_more ls (b ∷ rest) 1 r.lines.no_feeds ∙ ap (λ t. fed ls ++ t) w.1
+        ∙ ap (λ t. t ++ (b ∷ w.0)) (sym r.lines.are) in
     record {
       none = λ t is. longer t b rest is.in_range (sym r.stands ∙ is.is);
       here = inr (λ p. longer p.0 b (w.0 ++ p.1) p.2.in_range (sym (append_assoc (response_text s) (b ∷ w.0) p.1) ∙ ap (λ t. t ++ p.1) (sym first) ∙ p.2.is));
@@ -153,5 +154,6 @@ followed_cause bytes s (b ∷ rest) r some =
     (line_behind bytes (response_text s) (b ∷ rest) r.lines.ls (length (b ∷ rest)) r.stands refl r.lines.are r.lines.no_feeds)
 
 -- The stop that a call answers with.
-pub stop_here : {bytes : List ℕ} {e : Stop} {left : ℕ} {missing : Bool} → IsResponsesStop response_text AreResponsesInRange bytes e → e ≡ stops.Fault left missing → Stops response_text AreResponsesInRange bytes left missing
+pub stop_here : {bytes : List ℕ} {e : Stop} {left : ℕ} {missing : Bool} → IsResponsesStop response_text AreResponsesInRange bytes e → e ≡ stops.Fault left missing
+    → Stops response_text AreResponsesInRange bytes left missing
 stop_here {left = left} {missing = missing} i is = i.at left missing is

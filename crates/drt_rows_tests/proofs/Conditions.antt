@@ -57,7 +57,8 @@ node_at : (v : View FrontEntry) (id : ℕ) (h : Held FrontEntry) → slice_get v
 node_at v id h at = slice_get-map (λ x. x.node) v.nodes id ∙ ap (λ o. option_map (λ x. x.node) o) at
 
 -- A worker holds the node that was read.
-holds_read : (v : View FrontEntry) (w id : ℕ) (h : Held FrontEntry) → first (is_held_by w) (state_of v).nodes ≡ Some id → slice_get v.nodes id ≡ Some h → Holds demand_algebra (setting_of v) (state_of v) w id h.node
+holds_read : (v : View FrontEntry) (w id : ℕ) (h : Held FrontEntry) → first (is_held_by w) (state_of v).nodes ≡ Some id → slice_get v.nodes id ≡ Some h
+    → Holds demand_algebra (setting_of v) (state_of v) w id h.node
 holds_read v w id h e at =
     let f = held_node v w id e in
     let same : f.0 ≡ h.node = same_Some f.0 h.node (sym f.1.at ∙ node_at v id h at) in
@@ -68,19 +69,22 @@ read_again : (v : View FrontEntry) (id : ℕ) (h k : Held FrontEntry) → slice_
 read_again v id h k at again = ap (λ x. x.node.label.vertex) (same_Some k h (sym again ∙ at))
 
 -- A worker may offer the next edge of the node that it holds.
-pub can_offer : (v : View FrontEntry) (w id edge : ℕ) (h k : Held FrontEntry) → first (is_held_by w) (state_of v).nodes ≡ Some id → slice_get v.nodes id ≡ Some h → slice_get v.nodes id ≡ Some k → edge ≡ h.node.offered → edge < out_degree v.graph k.node.label.vertex → CanApply demand_algebra v w (Offer id edge)
+pub can_offer : (v : View FrontEntry) (w id edge : ℕ) (h k : Held FrontEntry) → first (is_held_by w) (state_of v).nodes ≡ Some id → slice_get v.nodes id ≡ Some h
+    → slice_get v.nodes id ≡ Some k → edge ≡ h.node.offered → edge < out_degree v.graph k.node.label.vertex → CanApply demand_algebra v w (Offer id edge)
 can_offer v w id edge h k e at again next lt =
     let d = ap (λ x. out_degree v.graph x) (read_again v id h k at again) in
     (h.node, holds_read v w id h e at, next, omega (arith, lt, d))
 
 -- It may close the node where all edges were offered.
-pub can_close : (v : View FrontEntry) (w id : ℕ) (h k : Held FrontEntry) → first (is_held_by w) (state_of v).nodes ≡ Some id → slice_get v.nodes id ≡ Some h → slice_get v.nodes id ≡ Some k → h.node.offered ≡ out_degree v.graph k.node.label.vertex → CanApply demand_algebra v w (Close id)
+pub can_close : (v : View FrontEntry) (w id : ℕ) (h k : Held FrontEntry) → first (is_held_by w) (state_of v).nodes ≡ Some id → slice_get v.nodes id ≡ Some h
+    → slice_get v.nodes id ≡ Some k → h.node.offered ≡ out_degree v.graph k.node.label.vertex → CanApply demand_algebra v w (Close id)
 can_close v w id h k e at again all =
     let d = ap (λ x. out_degree v.graph x) (read_again v id h k at again) in
     (h.node, holds_read v w id h e at, all ∙ d)
 
 -- The label that comes with an offer.
-pub comes_extended : (v : View FrontEntry) (id edge : ℕ) (h : Held FrontEntry) (read x : FrontEntry) → slice_get v.nodes id ≡ Some h → read ≡ h.node.label → x ≡ extended demand_algebra (setting_of v) read edge → ComesWith demand_algebra v (Offer id edge) (Some x)
+pub comes_extended : (v : View FrontEntry) (id edge : ℕ) (h : Held FrontEntry) (read x : FrontEntry) → slice_get v.nodes id ≡ Some h → read ≡ h.node.label
+    → x ≡ extended demand_algebra (setting_of v) read edge → ComesWith demand_algebra v (Offer id edge) (Some x)
 comes_extended v id edge h read x at e is = (h.node, node_at v id h at, ap Some (is ∙ ap (λ l. extended demand_algebra (setting_of v) l edge) e))
 
 -- Where there is a next node, it is kept.
@@ -89,7 +93,8 @@ IsKeptNext v o = (i : ℕ) → o ≡ Some i → (n : NodeOf FrontEntry) × (slic
 
 pub first_next : (v : View FrontEntry) (vertex : ℕ) (o : Option ℕ) → IsFirstKept demand_algebra (state_of v).nodes vertex o → IsKeptNext v o
 first_next v vertex None first i is = absurd (none-some i is)
-first_next v vertex (Some k) first i is = subst (λ j. (n : NodeOf FrontEntry) × (slice_get (state_of v).nodes j ≡ Some n) × (n.dropped_by ≡ None)) (same_Some k i is) (first.0, first.1.at, first.1.kept)
+first_next v vertex (Some k) first i is = subst (λ j. (n : NodeOf FrontEntry) × (slice_get (state_of v).nodes j ≡ Some n) × (n.dropped_by ≡ None)) (same_Some k i is)
+    (first.0, first.1.at, first.1.kept)
 
 -- The node after a kept one is kept.
 pub later_next : (v : View FrontEntry) (id : ℕ) (n : NodeOf FrontEntry) (o : Option ℕ) → IsNextKept demand_algebra (state_of v).nodes n.label.vertex id n o → IsKeptNext v o

@@ -33,7 +33,8 @@ module _ {L : Type 0} (v : View L) where
   -- the node as the program has it
   pub held_node : (k : ℕ) (n : NodeOf L) → slice_get (state_of v).nodes k ≡ Some n → (h : Held L) × (slice_get v.nodes k ≡ Some h) × (h.node ≡ n)
   held_node k n at =
-      let lt : k < length v.nodes = (let g : k < length (state_of v).nodes = slice_get_within (state_of v).nodes k n at in let e : length (state_of v).nodes ≡ length v.nodes = length-map v.nodes (λ h. h.node) in omega arith) in
+      let lt : k < length v.nodes = (let g : k < length (state_of v).nodes = slice_get_within (state_of v).nodes k n at in
+          let e : length (state_of v).nodes ≡ length v.nodes = length-map v.nodes (λ h. h.node) in omega arith) in
       let x : (h : Held L) × (slice_get v.nodes k ≡ Some h) = get_within v.nodes k lt in
       (x.0, x.1, same_Some x.0.node n (sym (node_at k x.0 x.1) ∙ at))
 
@@ -110,7 +111,9 @@ module _ {L : Type 0} (a : Algebra L) (old new : View L) (w : ℕ) (step : Table
         new_log ∙ (more ∙ ap (λ r. length old.log + logged_by r) (sym is.reply_is));
     few = few_logged a laws new table;
     kind = subst (λ r. IsReplyOf step r) (sym is.reply_is) went.kind;
-    hands = handed reply refl (subst (λ r. TakesOne (state_of old).nodes (state_of new).nodes r) (sym is.reply_is) (subst (λ (s : State L). TakesOne (state_of old).nodes s.nodes gone.reply) (sym is.state) went.takes));
+    hands = handed reply refl
+        (subst (λ r. TakesOne (state_of old).nodes (state_of new).nodes r) (sym is.reply_is)
+        (subst (λ (s : State L). TakesOne (state_of old).nodes s.nodes gone.reply) (sym is.state) went.takes));
   }
 
 not_both : (s : NodeState) → is_pending_state s ≡ true → is_taken_state s ≡ true → ⊥

@@ -92,7 +92,8 @@ module _ {L : Type 0} (a : Algebra L) where
               held = state_held w n.state (subst (λ (m : NodeOf L). is_held_by w m ≡ true) one f.passes);
             };
             offered = is_equal n.offered h.offered (and_left (n.offered == h.offered) (is_same a h.label n.label) more);
-            label = laws.antisymmetric n.label h.label (and_right (a.dominates h.label n.label) (a.dominates n.label h.label) labels) (and_left (a.dominates h.label n.label) (a.dominates n.label h.label) labels);
+            label = laws.antisymmetric n.label h.label (and_right (a.dominates h.label n.label) (a.dominates n.label h.label) labels)
+                (and_left (a.dominates h.label n.label) (a.dominates n.label h.label) labels);
           }
 
       no_node : (id : ℕ) → is_expected (Some h) (found_node a (Some h) id None) ≡ true → ⊥
@@ -111,7 +112,8 @@ module _ {L : Type 0} (a : Algebra L) where
       seen o is e = seen_first (first (is_held_by w) s.nodes) refl (subst (λ (p : Option (Holding L)). is_expected p (found_for a s.nodes w p) ≡ true) is e)
 
 -- The conditions of the machine's step are those of the move, for what the pass holds.
-module _ {L : Type 0} (a : Algebra L) (laws : Laws a) (v : View L) (w : ℕ) (o : Option (Holding L)) (e : is_expected o (found_for a (state_of v).nodes w o) ≡ true) (h : Holding L) (is : o ≡ Some h) where
+module _ {L : Type 0} (a : Algebra L) (laws : Laws a) (v : View L) (w : ℕ) (o : Option (Holding L)) (e : is_expected o (found_for a (state_of v).nodes w o) ≡ true)
+    (h : Holding L) (is : o ≡ Some h) where
   view_seen : IsSeen a (setting_of v) (state_of v) w h
   view_seen = seen a (setting_of v) (state_of v) w laws h o is e
 
@@ -235,14 +237,21 @@ module _ {L : Type 0} (a : Algebra L) where
   halted_call v o m few = record { setting = refl; log = omega arith; few = few; kind = tt; differs = tt; comes = tt; held = nothing_held (setting_of v); next = tt }
 
   -- a call that made a step
-  pub offer_call : (old new : View L) (o : Option (Holding L)) (id k : ℕ) (l : L) (r : TableReply) → IsLogged old new (OfferStep id k) r → HasMore a (setting_of old) o → IsCall a old new o (Offer k l) (Step r) None
-  offer_call old new o id k l r is more = record { setting = is.setting; log = is.log; few = is.few; kind = is.kind; differs = tt; comes = offer_nothing L r is.kind; held = nothing_held (setting_of old); next = offer_counts (setting_of old) o r is.kind more }
+  pub offer_call : (old new : View L) (o : Option (Holding L)) (id k : ℕ) (l : L) (r : TableReply) → IsLogged old new (OfferStep id k) r → HasMore a (setting_of old) o
+      → IsCall a old new o (Offer k l) (Step r) None
+  offer_call old new o id k l r is more = record
+      { setting = is.setting; log = is.log; few = is.few; kind = is.kind; differs = tt; comes = offer_nothing L r is.kind; held = nothing_held (setting_of old);
+      next = offer_counts (setting_of old) o r is.kind more }
 
   pub close_call : (old new : View L) (o : Option (Holding L)) (id : ℕ) (r : TableReply) → IsLogged old new (CloseStep id) r → IsCall a old new o Close (Step r) None
-  close_call old new o id r is = record { setting = is.setting; log = is.log; few = is.few; kind = is.kind; differs = tt; comes = close_nothing L r is.kind; held = nothing_held (setting_of old); next = close_counts (setting_of old) o r is.kind }
+  close_call old new o id r is = record
+      { setting = is.setting; log = is.log; few = is.few; kind = is.kind; differs = tt; comes = close_nothing L r is.kind; held = nothing_held (setting_of old);
+      next = close_counts (setting_of old) o r is.kind }
 
   pub take_call : (old new : View L) (o : Option (Holding L)) (r : TableReply) → IsLogged old new TakeStep r → taken_node r ≡ None → IsCall a old new o Take (Step r) None
-  take_call old new o r is none = record { setting = is.setting; log = is.log; few = is.few; kind = is.kind; differs = tt; comes = take_nothing L r none; held = nothing_held (setting_of old); next = take_counts (setting_of old) o r is.kind }
+  take_call old new o r is none = record
+      { setting = is.setting; log = is.log; few = is.few; kind = is.kind; differs = tt; comes = take_nothing L r none; held = nothing_held (setting_of old);
+      next = take_counts (setting_of old) o r is.kind }
 
   pub taken_call : (old mid new : View L) (o : Option (Holding L)) (r : TableReply) (h : Holding L) → IsLogged old mid TakeStep r → taken_node r ≡ Some h.node → h.offered ≡ 0
       → setting_of new ≡ setting_of mid → new.log ≡ mid.log → IsLabel a (setting_of mid) h.label → IsCall a old new o Take (Step r) (Some h)

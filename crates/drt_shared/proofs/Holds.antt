@@ -48,7 +48,8 @@ module _ {L : Type 0} where
     held_by Closed old taken was comes more = λ h e. absurd (none-some h e)
     held_by Spent old taken was comes more = was
 
-    pub held_after : (reply : SharedReply) (old taken : Option (Holding L)) → AreHeld a t old → AreHeld a t taken → ForReply (λ r. CanCount a t r old) reply → AreHeld a t (holding_after reply old taken)
+    pub held_after : (reply : SharedReply) (old taken : Option (Holding L)) → AreHeld a t old → AreHeld a t taken → ForReply (λ r. CanCount a t r old) reply
+        → AreHeld a t (holding_after reply old taken)
     held_after (Step r) old taken was comes more = held_by r old taken was comes more
     held_after Halted old taken was comes more = was
     held_after (Strange f) old taken was comes more = was

@@ -185,11 +185,13 @@ dominates_of g bound u vs w ws x y p q is =
     (covers_values y.values x.values bound q.long p.long (λ t from to. let l = is.2 t from to in let m = p.values t from to in let n = q.values t from to in omega (arith, l, m, n))))
 
 -- Walks with one label have equal ones.
-pub same_labels : (g : Digraph) (bound u : ℕ) (vs : List ℕ) (w : ℕ) (ws : List ℕ) (x y : Request) → IsRequestLabelOf g bound u vs x → IsRequestLabelOf g bound w ws y → HaveOneLabel bound g (u ∷ vs) (w ∷ ws) → x ≡ y
+pub same_labels : (g : Digraph) (bound u : ℕ) (vs : List ℕ) (w : ℕ) (ws : List ℕ) (x y : Request) → IsRequestLabelOf g bound u vs x → IsRequestLabelOf g bound w ws y
+    → HaveOneLabel bound g (u ∷ vs) (w ∷ ws) → x ≡ y
 same_labels g bound u vs w ws x y p q have = request_laws.antisymmetric x y (dominates_of g bound w ws u vs y x q p have.1) (dominates_of g bound u vs w ws x y p q have.0)
 
 -- And the converse.
-pub one_label : (g : Digraph) (bound u : ℕ) (vs : List ℕ) (w : ℕ) (ws : List ℕ) (x y : Request) → IsRequestLabelOf g bound u vs x → IsRequestLabelOf g bound w ws y → x ≡ y → HaveOneLabel bound g (u ∷ vs) (w ∷ ws)
+pub one_label : (g : Digraph) (bound u : ℕ) (vs : List ℕ) (w : ℕ) (ws : List ℕ) (x y : Request) → IsRequestLabelOf g bound u vs x → IsRequestLabelOf g bound w ws y
+    → x ≡ y → HaveOneLabel bound g (u ∷ vs) (w ∷ ws)
 one_label g bound u vs w ws x y p q same = (
   above_of g bound u vs w ws x y p q (subst (λ z. IsTrue (request_dominates z x)) same (request_laws.reflexive x)),
   above_of g bound w ws u vs y x q p (subst (λ z. IsTrue (request_dominates x z)) same (request_laws.reflexive x)),

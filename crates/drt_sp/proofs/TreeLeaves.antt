@@ -117,7 +117,8 @@ module _ (t : Setting) (nodes : List (NodeOf Request)) where
         let w = walked n l is in
         subst (IsNonDominatedWalk t.bound t.graph) (sym w.is) (λ v short above. go w.first w.others w.label v short above)
       where
-        go : (u : ℕ) (vs : List ℕ) → IsRequestLabelOf t.graph t.bound u vs n.label → (v : List ℕ) → IsShortWalk t.bound t.graph v → IsAbove t.bound t.graph u vs v → HaveOneLabel t.bound t.graph (u ∷ vs) v
+        go : (u : ℕ) (vs : List ℕ) → IsRequestLabelOf t.graph t.bound u vs n.label → (v : List ℕ) → IsShortWalk t.bound t.graph v → IsAbove t.bound t.graph u vs v
+            → HaveOneLabel t.bound t.graph (u ∷ vs) v
         go u vs label [] short above = absurd short
         go u vs label (x ∷ xs) short above =
             let m = short_walk t sound x xs short in
@@ -143,7 +144,8 @@ module _ (t : Setting) (nodes : List (NodeOf Request)) where
         subst (λ z. HaveOneLabel t.bound t.graph z (w.first ∷ w.others)) v.is (subst (λ z. HaveOneLabel t.bound t.graph x.walk z) w.is have) in
         front.once i j m n p q (same_labels t.graph t.bound v.first v.others w.first w.others m.label n.label v.label w.label one)
 
-    once_is : (i : ℕ) (ls : List Leaf) → AreLeavesGathered t nodes i ls → (p q : ℕ) (x y : Leaf) → slice_get ls p ≡ Some x → slice_get ls q ≡ Some y → HaveOneLabel t.bound t.graph x.walk y.walk → p ≡ q
+    once_is : (i : ℕ) (ls : List Leaf) → AreLeavesGathered t nodes i ls → (p q : ℕ) (x y : Leaf) → slice_get ls p ≡ Some x → slice_get ls q ≡ Some y
+        → HaveOneLabel t.bound t.graph x.walk y.walk → p ≡ q
     once_is zero ls are p q x y at bt have = absurd (none-some x (ap (λ ys. slice_get ys p) (sym are) ∙ at))
     once_is (suc i) ls (inl are) p q x y at bt have = once_is i ls are.3 p q x y at bt have
     once_is (suc i) ls (inr are) p q x y at bt have =

@@ -24,7 +24,8 @@ root_last one low = omega arith
 root_last (two l r) low = omega arith
 
 -- What leads from the root to a leaf leads to one of the tree's.
-pub under_range : (f : Plain) (s : Shape) (low first : ℕ) → Stands f s low first → (turns : List Bool) (leaf : ℕ) → LeadsToLeaf f (root_of s low first) turns leaf → (low ≤ leaf) × (leaf < low + parts s)
+pub under_range : (f : Plain) (s : Shape) (low first : ℕ) → Stands f s low first → (turns : List Bool) (leaf : ℕ) → LeadsToLeaf f (root_of s low first) turns leaf
+    → (low ≤ leaf) × (leaf < low + parts s)
 under_range f one low first st [] leaf h = let e = h.0 in (omega (arith, e), omega (arith, e))
 under_range f one low first st (b ∷ turns) leaf h = let p : ℕ × ℕ = (h.0, h.1) in absurd (none-some p (sym st.1 ∙ h.2))
 under_range f (two l r) low first st [] leaf h = let p : ℕ × ℕ = (root_of l low first, root_of r (low + parts l) (first + pairs l)) in absurd (none-some p (sym h.1 ∙ st.2))

@@ -19,7 +19,8 @@ levels_behind p (x ∷ js) new =
     ap (λ ls. (p + x.rise) ∷ ls) (levels_behind (p + x.rise) js new
     ∙ ap (λ n. levels (p + x.rise) js ++ (n + new.rise) ∷ []) (let e : p + x.rise + total_rise js ≡ p + (x.rise + total_rise js) = omega arith in e))
 
-from_behind : (r : ℕ) (js : List Jump) (new : Jump) → AreFrom r js → r ≤ new.after → ((i : ℕ) (j : Jump) → i + 1 ≡ length js → slice_get js i ≡ Some j → j.after < new.after + 1) → AreFrom r (js ++ new ∷ [])
+from_behind : (r : ℕ) (js : List Jump) (new : Jump) → AreFrom r js → r ≤ new.after
+    → ((i : ℕ) (j : Jump) → i + 1 ≡ length js → slice_get js i ≡ Some j → j.after < new.after + 1) → AreFrom r (js ++ new ∷ [])
 from_behind r [] new h le last = (le, tt)
 from_behind r (x ∷ js) new h le last =
     let j : Jump = jump_at (x ∷ js) (length js) in
@@ -28,7 +29,8 @@ from_behind r (x ∷ js) new h le last =
     let b : j.after < new.after + 1 = last (length js) j (omega arith) at in
     (h.0, from_behind x.after js new h.1 (omega arith) (λ i k e there. last (suc i) k (omega (arith, e)) there))
 
-pub behind_kept : (n p : ℕ) (js : List Jump) (new : Jump) → AreKept n p js → p + total_rise js + new.rise ≤ 1000000000000 → 1 ≤ new.after → new.after < n → IsPlaceReached js (new.after + 1) (length js) → AreKept n p (js ++ new ∷ [])
+pub behind_kept : (n p : ℕ) (js : List Jump) (new : Jump) → AreKept n p js → p + total_rise js + new.rise ≤ 1000000000000 → 1 ≤ new.after → new.after < n
+    → IsPlaceReached js (new.after + 1) (length js) → AreKept n p (js ++ new ∷ [])
 behind_kept n p js new k le from lt last =
     let a : total_rise (js ++ new ∷ []) ≡ total_rise js + (new.rise + 0) = total_append js (new ∷ []) in
     record { from = k.from; to = k.to; small = omega arith; order = from_behind 1 js new k.order from last.before; below = below_append n js (new ∷ []) k.below (lt, tt) }

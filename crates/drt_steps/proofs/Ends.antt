@@ -13,7 +13,8 @@ use Rattle.drt_steps.specs.Values.{value_at}
 use Rattle.drt_steps.proofs.Jumps.{share, share_in, share_out, take_more}
 
 -- one more jump, which comes at the new time or earlier
-pub level_in : (js : List Jump) (i since t : ℕ) (j : Jump) → slice_get js i ≡ Some j → j.after < t → ((s : ℕ) → since < s → s ≤ t → risen (take i js) s ≡ risen (take i js) t) → (s : ℕ) → max j.after since < s → s ≤ t → risen (take (i + 1) js) s ≡ risen (take (i + 1) js) t
+pub level_in : (js : List Jump) (i since t : ℕ) (j : Jump) → slice_get js i ≡ Some j → j.after < t
+    → ((s : ℕ) → since < s → s ≤ t → risen (take i js) s ≡ risen (take i js) t) → (s : ℕ) → max j.after since < s → s ≤ t → risen (take (i + 1) js) s ≡ risen (take (i + 1) js) t
 level_in js i since t j at lt h s late le =
     let a : risen (take (i + 1) js) s ≡ risen (take i js) s + share j s = take_more js i j s at in
     let b : risen (take (i + 1) js) t ≡ risen (take i js) t + share j t = take_more js i j t at in
@@ -22,7 +23,8 @@ level_in js i since t j at lt h s late le =
     let e : risen (take i js) s ≡ risen (take i js) t = h s (omega arith) le in
     omega arith
 
-pub level_out : (js : List Jump) (i since t : ℕ) (j : Jump) → slice_get js i ≡ Some j → t ≤ j.after → ((s : ℕ) → since < s → s ≤ t → risen (take i js) s ≡ risen (take i js) t) → (s : ℕ) → since < s → s ≤ t → risen (take (i + 1) js) s ≡ risen (take (i + 1) js) t
+pub level_out : (js : List Jump) (i since t : ℕ) (j : Jump) → slice_get js i ≡ Some j → t ≤ j.after
+    → ((s : ℕ) → since < s → s ≤ t → risen (take i js) s ≡ risen (take i js) t) → (s : ℕ) → since < s → s ≤ t → risen (take (i + 1) js) s ≡ risen (take (i + 1) js) t
 level_out js i since t j at out h s late le =
     let a : risen (take (i + 1) js) s ≡ risen (take i js) s + share j s = take_more js i j s at in
     let b : risen (take (i + 1) js) t ≡ risen (take i js) t + share j t = take_more js i j t at in
@@ -61,7 +63,8 @@ other_then a b o ne = then_at (nat_cmp a b) o (λ e. ne (cmp_equal a b e))
 same_then : (a b : ℕ) (o : Ordering) → a ≡ b → ordering_then (nat_cmp a b) o ≡ o
 same_then a b o e = subst (λ (z : ℕ). ordering_then (nat_cmp a z) o ≡ o) e (own_then a o)
 
-down_steps : (xs ys : List ℕ) (k s : ℕ) → ((r : ℕ) → s < r → r ≤ s + k → value_at xs r ≡ value_at ys r) → slice_cmp nat_cmp (down xs (s + k)) (down ys (s + k)) ≡ slice_cmp nat_cmp (down xs s) (down ys s)
+down_steps : (xs ys : List ℕ) (k s : ℕ) → ((r : ℕ) → s < r → r ≤ s + k → value_at xs r ≡ value_at ys r)
+    → slice_cmp nat_cmp (down xs (s + k)) (down ys (s + k)) ≡ slice_cmp nat_cmp (down xs s) (down ys s)
 down_steps xs ys zero s h = ap (λ z. slice_cmp nat_cmp (down xs z) (down ys z)) (let e : s + 0 ≡ s = omega arith in e)
 down_steps xs ys (suc k) s h =
     ap (λ z. slice_cmp nat_cmp (down xs z) (down ys z)) (let e : s + suc k ≡ suc (s + k) = omega arith in e)

@@ -55,14 +55,17 @@ flat_values b t (suc n) = ap (λ y. y ∷ values_from (λ t. b + 0) (suc t) n) (
 raise_all : (f : ℕ → ℕ) (offset w t n : ℕ) → offset < t → raise 0 w (values_from f t n) ≡ values_from (λ s. f s + cond (nat_lt offset s) w 0) t n
 raise_all f offset w t zero lt = refl
 raise_all f offset w t (suc n) lt =
-    ap (λ y. y ∷ raise 0 w (values_from f (suc t) n)) (let e : f t + w ≡ f t + cond (nat_lt offset t) w 0 = ap (λ b. f t + cond b w 0) (let k : true ≡ nat_lt offset t = grind (arith, nat_tests) in k) in e)
+    ap (λ y. y ∷ raise 0 w (values_from f (suc t) n))
+        (let e : f t + w ≡ f t + cond (nat_lt offset t) w 0 = ap (λ b. f t + cond b w 0) (let k : true ≡ nat_lt offset t = grind (arith, nat_tests) in k) in e)
     ∙ ap (λ ys. (f t + cond (nat_lt offset t) w 0) ∷ ys) (raise_all f offset w (suc t) n (omega arith))
 
 raise_some : (f : ℕ → ℕ) (offset w k t n : ℕ) → offset + 1 ≡ k + t → raise k w (values_from f t n) ≡ values_from (λ s. f s + cond (nat_lt offset s) w 0) t n
 raise_some f offset w k t zero e = refl
 raise_some f offset w zero t (suc n) e = raise_all f offset w t (suc n) (omega arith)
 raise_some f offset w (suc k) t (suc n) e =
-    ap (λ y. y ∷ raise k w (values_from f (suc t) n)) (let g : f t ≡ f t + cond (nat_lt offset t) w 0 = (let z : f t ≡ f t + 0 = omega arith in z) ∙ ap (λ b. f t + cond b w 0) (let h : false ≡ nat_lt offset t = grind (arith, nat_tests) in h) in g)
+    ap (λ y. y ∷ raise k w (values_from f (suc t) n))
+        (let g : f t ≡ f t + cond (nat_lt offset t) w 0 = (let z : f t ≡ f t + 0 = omega arith in z)
+        ∙ ap (λ b. f t + cond b w 0) (let h : false ≡ nat_lt offset t = grind (arith, nat_tests) in h) in g)
     ∙ ap (λ ys. (f t + cond (nat_lt offset t) w 0) ∷ ys) (raise_some f offset w k (suc t) n (omega arith))
 
 -- the values of the code's new jumps are the old values, raised
@@ -77,7 +80,8 @@ value_of_jumps bound base t js from to =
     at-values_from (λ s. base + risen js s) 1 bound (t - 1) (omega arith)
     ∙ ap (λ s. base + risen js s) (let e : 1 + (t - 1) ≡ t = omega arith in e)
 
-parts_at : (s t : ℕ) (j : Jump) (js : List Jump) (b c : Bool) → nat_le j.after s ≡ b → nat_lt s j.after ≡ c → risen (up_to s js) t + risen (past s js) t ≡ risen js t → risen (cond b (j ∷ up_to s js) (up_to s js)) t + risen (cond c (j ∷ past s js) (past s js)) t ≡ share j t + risen js t
+parts_at : (s t : ℕ) (j : Jump) (js : List Jump) (b c : Bool) → nat_le j.after s ≡ b → nat_lt s j.after ≡ c → risen (up_to s js) t + risen (past s js) t ≡ risen js t
+    → risen (cond b (j ∷ up_to s js) (up_to s js)) t + risen (cond c (j ∷ past s js) (past s js)) t ≡ share j t + risen js t
 parts_at s t j js true true p q e = absurd (grind (arith, nat_tests))
 parts_at s t j js true false p q e = omega arith
 parts_at s t j js false true p q e = omega arith
@@ -116,7 +120,8 @@ weaker : (a b : ℕ) (xs : List Jump) → a ≤ b → AreFrom b xs → AreFrom a
 weaker a b [] l f = tt
 weaker a b (x ∷ xs) l f = let h : b ≤ x.after = f.0 in (omega arith, f.1)
 
-up_to_pick : (r s : ℕ) (j : Jump) (js ks : List Jump) (new : Jump) (b : Bool) → nat_le j.after s ≡ b → r ≤ j.after → (j.after ≤ s → AreFrom j.after (up_to s js ++ new ∷ ks)) → AreFrom r (up_to s js ++ new ∷ ks) → AreFrom r (cond b (j ∷ up_to s js) (up_to s js) ++ new ∷ ks)
+up_to_pick : (r s : ℕ) (j : Jump) (js ks : List Jump) (new : Jump) (b : Bool) → nat_le j.after s ≡ b → r ≤ j.after
+    → (j.after ≤ s → AreFrom j.after (up_to s js ++ new ∷ ks)) → AreFrom r (up_to s js ++ new ∷ ks) → AreFrom r (cond b (j ∷ up_to s js) (up_to s js) ++ new ∷ ks)
 up_to_pick r s j js ks new true p l yes_then no_then = (l, yes_then (grind (arith, nat_tests)))
 up_to_pick r s j js ks new false p l yes_then no_then = no_then
 
@@ -125,7 +130,8 @@ from_up_to r s [] ks new e le h k = (omega arith, subst (λ (x : ℕ). AreFrom x
 from_up_to r s (j ∷ js) ks new e le h k =
     up_to_pick r s j js ks new (nat_le j.after s) refl h.0 (λ l. from_up_to j.after s js ks new e l h.1 k) (from_up_to r s js ks new e le (weaker r j.after js h.0 h.1) k)
 
-past_pick : (a s : ℕ) (j : Jump) (js : List Jump) (b : Bool) → nat_lt s j.after ≡ b → (s < j.after → a ≤ j.after) → (s < j.after → AreFrom j.after (past s js)) → (j.after ≤ s → AreFrom a (past s js)) → AreFrom a (cond b (j ∷ past s js) (past s js))
+past_pick : (a s : ℕ) (j : Jump) (js : List Jump) (b : Bool) → nat_lt s j.after ≡ b → (s < j.after → a ≤ j.after) → (s < j.after → AreFrom j.after (past s js))
+    → (j.after ≤ s → AreFrom a (past s js)) → AreFrom a (cond b (j ∷ past s js) (past s js))
 past_pick a s j js true p l f g = (l (grind (arith, nat_tests)), f (grind (arith, nat_tests)))
 past_pick a s j js false p l f g = g (grind (arith, nat_tests))
 
@@ -163,13 +169,15 @@ pub up_to_in : (s i : ℕ) (j : Jump) (js : List Jump) → slice_get js i ≡ So
 up_to_in s i j js at le = up_to_more s i j js at ∙ ap (λ b. up_to s (take i js) ++ cond b (j ∷ []) []) (let k : nat_le j.after s ≡ true = grind (arith, nat_tests) in k)
 
 pub up_to_out : (s i : ℕ) (j : Jump) (js : List Jump) → slice_get js i ≡ Some j → s < j.after → up_to s (take (i + 1) js) ≡ up_to s (take i js)
-up_to_out s i j js at lt = up_to_more s i j js at ∙ (ap (λ b. up_to s (take i js) ++ cond b (j ∷ []) []) (let k : nat_le j.after s ≡ false = grind (arith, nat_tests) in k) ∙ append_nil (up_to s (take i js)))
+up_to_out s i j js at lt = up_to_more s i j js at
+    ∙ (ap (λ b. up_to s (take i js) ++ cond b (j ∷ []) []) (let k : nat_le j.after s ≡ false = grind (arith, nat_tests) in k) ∙ append_nil (up_to s (take i js)))
 
 pub past_in : (s i : ℕ) (j : Jump) (js : List Jump) → slice_get js i ≡ Some j → s < j.after → past s (take (i + 1) js) ≡ past s (take i js) ++ j ∷ []
 past_in s i j js at lt = past_more s i j js at ∙ ap (λ b. past s (take i js) ++ cond b (j ∷ []) []) (let k : nat_lt s j.after ≡ true = grind (arith, nat_tests) in k)
 
 pub past_out : (s i : ℕ) (j : Jump) (js : List Jump) → slice_get js i ≡ Some j → j.after ≤ s → past s (take (i + 1) js) ≡ past s (take i js)
-past_out s i j js at le = past_more s i j js at ∙ (ap (λ b. past s (take i js) ++ cond b (j ∷ []) []) (let k : nat_lt s j.after ≡ false = grind (arith, nat_tests) in k) ∙ append_nil (past s (take i js)))
+past_out s i j js at le = past_more s i j js at
+    ∙ (ap (λ b. past s (take i js) ++ cond b (j ∷ []) []) (let k : nat_lt s j.after ≡ false = grind (arith, nat_tests) in k) ∙ append_nil (past s (take i js)))
 
 pub append_after : {A : Type 0} (xs : List A) (y : A) (ys zs : List A) → (xs ++ y ∷ ys) ++ zs ≡ xs ++ y ∷ (ys ++ zs)
 append_after [] y ys zs = refl
@@ -189,7 +197,9 @@ pub total_append : (xs ys : List Jump) → total_rise (xs ++ ys) ≡ total_rise 
 total_append [] ys = sym (omega arith)
 total_append (x ∷ xs) ys = let e : total_rise (xs ++ ys) ≡ total_rise xs + total_rise ys = total_append xs ys in omega arith
 
-total_parts_at : (s : ℕ) (j : Jump) (js : List Jump) (b c : Bool) → nat_le j.after s ≡ b → nat_lt s j.after ≡ c → total_rise (up_to s js) + total_rise (past s js) ≡ total_rise js → total_rise (cond b (j ∷ up_to s js) (up_to s js)) + total_rise (cond c (j ∷ past s js) (past s js)) ≡ j.rise + total_rise js
+total_parts_at : (s : ℕ) (j : Jump) (js : List Jump) (b c : Bool) → nat_le j.after s ≡ b → nat_lt s j.after ≡ c
+    → total_rise (up_to s js) + total_rise (past s js) ≡ total_rise js
+    → total_rise (cond b (j ∷ up_to s js) (up_to s js)) + total_rise (cond c (j ∷ past s js) (past s js)) ≡ j.rise + total_rise js
 total_parts_at s j js true true p q e = absurd (grind (arith, nat_tests))
 total_parts_at s j js true false p q e = omega arith
 total_parts_at s j js false true p q e = omega arith

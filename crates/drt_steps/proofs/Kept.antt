@@ -17,7 +17,8 @@ top n p js xs e k =
     let a : value_at (values n p js) n ≡ p + risen js n = value_of_jumps n p n js from (omega arith) in
     ap (λ ys. value_at ys n) (sym e) ∙ (a ∙ ap (λ z. p + z) (risen_all n n js k.below (omega arith)))
 
-pub covers_is : (r : Bool) (n m p q : ℕ) (own other : List Jump) → n ≡ m → 1 ≤ n → AreJumpsBefore m other → (r ≡ true → (t : ℕ) → q + risen other t ≤ p + risen own t) → (r ≡ false → (s : ℕ) × IsBelowAt p own q other s) → r ≡ covers (values n p own) (values m q other)
+pub covers_is : (r : Bool) (n m p q : ℕ) (own other : List Jump) → n ≡ m → 1 ≤ n → AreJumpsBefore m other → (r ≡ true → (t : ℕ) → q + risen other t ≤ p + risen own t)
+    → (r ≡ false → (s : ℕ) × IsBelowAt p own q other s) → r ≡ covers (values n p own) (values m q other)
 covers_is true n m p q own other e from below up down =
     sym (covers_values (λ t. p + risen own t) (λ t. q + risen other t) 1 n (up refl)) ∙ ap (λ z. covers (values n p own) (values z q other)) e
 covers_is false n m p q own other e from below up down =
@@ -45,7 +46,8 @@ most_is n m p q own other most e h =
 pub base_kept : (n p w : ℕ) (js : List Jump) → AreKept n p js → p + total_rise js + w ≤ 1000000000000 → AreKept n (p + w) js
 base_kept n p w js k le = record { from = k.from; to = k.to; small = omega arith; order = k.order; below = k.below }
 
-pub placed_kept : (n p : ℕ) (js : List Jump) (new : Jump) → AreKept n p js → p + total_rise js + new.rise ≤ 1000000000000 → 1 ≤ new.after → new.after < n → AreKept n p (up_to new.after js ++ new ∷ past new.after js)
+pub placed_kept : (n p : ℕ) (js : List Jump) (new : Jump) → AreKept n p js → p + total_rise js + new.rise ≤ 1000000000000 → 1 ≤ new.after → new.after < n
+    → AreKept n p (up_to new.after js ++ new ∷ past new.after js)
 placed_kept n p js new k le from lt =
     let a : total_rise (up_to new.after js ++ new ∷ past new.after js) ≡ total_rise js + new.rise = total_placed new.after js new in
     record { from = k.from; to = k.to; small = omega arith; order = from_placed 1 new.after js new refl from k.order; below = below_placed n new.after js new lt k.below }

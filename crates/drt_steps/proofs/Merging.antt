@@ -19,7 +19,8 @@ pub record Covering (p q : ℕ) (own other : List Jump) (i j x y : ℕ) : Type 0
 pub covering_start : (p q : ℕ) (own other : List Jump) → q ≤ p → Covering p q own other 0 0 p q
 covering_start p q own other le = record { own_is = omega arith; other_is = omega arith; enough = le; above = λ t. omega arith; past = λ k at t lt. refl }
 
-pub covering_own : (p q : ℕ) (own other : List Jump) (i j x y : ℕ) (m k : Jump) → Covering p q own other i j x y → AreFrom 1 own → slice_get own i ≡ Some m → slice_get other j ≡ Some k → m.after ≤ k.after → Covering p q own other (i + 1) j (x + m.rise) y
+pub covering_own : (p q : ℕ) (own other : List Jump) (i j x y : ℕ) (m k : Jump) → Covering p q own other i j x y → AreFrom 1 own → slice_get own i ≡ Some m
+    → slice_get other j ≡ Some k → m.after ≤ k.after → Covering p q own other (i + 1) j (x + m.rise) y
 covering_own p q own other i j x y m k c order at next le =
     let a : total_rise (take (i + 1) own) ≡ total_rise (take i own) + m.rise = total_more own i m at in
     let o : x ≡ p + total_rise (take i own) = c.own_is in
@@ -32,7 +33,8 @@ covering_own p q own other i j x y m k c order at next le =
       past = λ k2 at2 t lt. taken_more 1 own i m t order at (let same : k ≡ k2 = same_Some k k2 (sym next ∙ at2) in let s : k.after ≡ k2.after = ap (λ (z : Jump). z.after) same in omega arith);
     }
 
-covering_above : (p q : ℕ) (own other : List Jump) (i j x y : ℕ) (k : Jump) → Covering p q own other i j x y → slice_get other j ≡ Some k → y + k.rise ≤ x → (t : ℕ) (b : Bool) → nat_lt k.after t ≡ b → q + risen (take (j + 1) other) t ≤ p + risen own t
+covering_above : (p q : ℕ) (own other : List Jump) (i j x y : ℕ) (k : Jump) → Covering p q own other i j x y → slice_get other j ≡ Some k → y + k.rise ≤ x
+    → (t : ℕ) (b : Bool) → nat_lt k.after t ≡ b → q + risen (take (j + 1) other) t ≤ p + risen own t
 covering_above p q own other i j x y k c at le t true late =
     let lt : k.after < t = grind (arith, nat_tests) in
     let o : x ≡ p + total_rise (take i own) = c.own_is in
@@ -48,7 +50,8 @@ covering_above p q own other i j x y k c at le t false late =
     let f : q + risen (take j other) t ≤ p + risen own t = c.above t in
     omega arith
 
-pub covering_other : (p q : ℕ) (own other : List Jump) (i j x y : ℕ) (k : Jump) → Covering p q own other i j x y → AreFrom 1 other → slice_get other j ≡ Some k → y + k.rise ≤ x → Covering p q own other i (j + 1) x (y + k.rise)
+pub covering_other : (p q : ℕ) (own other : List Jump) (i j x y : ℕ) (k : Jump) → Covering p q own other i j x y → AreFrom 1 other → slice_get other j ≡ Some k
+    → y + k.rise ≤ x → Covering p q own other i (j + 1) x (y + k.rise)
 covering_other p q own other i j x y k c order at le =
     let a : total_rise (take (j + 1) other) ≡ total_rise (take j other) + k.rise = total_more other j k at in
     let o : x ≡ p + total_rise (take i own) = c.own_is in
@@ -69,7 +72,8 @@ rest_late s (x ∷ js) zero t h late = none_risen x.after (x ∷ js) t (omega ar
 rest_late s (x ∷ js) (suc i) t h late = let r : risen js t ≡ risen (take i js) t = rest_late x.after js i t h.1 late in omega arith
 
 -- where the other function is the greater one
-pub covering_fails : (p q : ℕ) (own other : List Jump) (i j x y : ℕ) (k : Jump) → Covering p q own other i j x y → AreFrom 1 own → AreFrom 1 other → slice_get other j ≡ Some k → ((m : Jump) → slice_get own i ≡ Some m → k.after < m.after) → x < y + k.rise → IsBelowAt p own q other k.after
+pub covering_fails : (p q : ℕ) (own other : List Jump) (i j x y : ℕ) (k : Jump) → Covering p q own other i j x y → AreFrom 1 own → AreFrom 1 other
+    → slice_get other j ≡ Some k → ((m : Jump) → slice_get own i ≡ Some m → k.after < m.after) → x < y + k.rise → IsBelowAt p own q other k.after
 covering_fails p q own other i j x y k c order order2 at later lt =
     let o : x ≡ p + total_rise (take i own) = c.own_is in
     let r : y ≡ q + total_rise (take j other) = c.other_is in
@@ -88,7 +92,8 @@ base_fails p q own other order lt =
 
 -- all jumps of the other function were taken
 pub covering_ends : (p q : ℕ) (own other : List Jump) (i j x y : ℕ) → Covering p q own other i j x y → length other ≤ j → (t : ℕ) → q + risen other t ≤ p + risen own t
-covering_ends p q own other i j x y c le t = let e : risen (take j other) t ≡ risen other t = ap (λ js. risen js t) (take_all other j le) in let a : q + risen (take j other) t ≤ p + risen own t = c.above t in omega arith
+covering_ends p q own other i j x y c le t = let e : risen (take j other) t ≡ risen other t = ap (λ js. risen js t) (take_all other j le) in
+    let a : q + risen (take j other) t ≤ p + risen own t = c.above t in omega arith
 
 -- the values tell the same
 pub covers_values : (f g : ℕ → ℕ) (t n : ℕ) → ((s : ℕ) → g s ≤ f s) → covers (values_from f t n) (values_from g t n) ≡ true
@@ -127,7 +132,8 @@ grew : (m r x y w : ℕ) → max x y ≡ m + r → max (x + w) y ≡ m + (r + (m
 grew m r x y w h = omega arith
 
 -- a jump at the end
-risen_grown_at : (e b c t : ℕ) (js : List Jump) (test : Bool) → nat_lt b c ≡ test → b ≤ c → risen (cond test (js ++ record { after = e; rise = c - b } ∷ []) js) t ≡ risen js t + cond (nat_lt e t) (c - b) 0
+risen_grown_at : (e b c t : ℕ) (js : List Jump) (test : Bool) → nat_lt b c ≡ test → b ≤ c
+    → risen (cond test (js ++ record { after = e; rise = c - b } ∷ []) js) t ≡ risen js t + cond (nat_lt e t) (c - b) 0
 risen_grown_at e b c t js true h le =
     let new : Jump = record { after = e; rise = c - b } in
     let a : risen (js ++ new ∷ []) t ≡ risen js t + (cond (nat_lt e t) (c - b) 0 + 0) = risen_append js (new ∷ []) t in
@@ -209,7 +215,8 @@ merging_turned p q own other i j x y out m = record {
   below = λ n h k. m.below n k h;
 }
 
-merging_most : (p q : ℕ) (own other : List Jump) (i j x y : ℕ) (out : List Jump) (k : Jump) → Merging p q own other i j x y out → AreFrom 1 own → slice_get own i ≡ Some k → (t : ℕ) (b : Bool) → nat_lt k.after t ≡ b → max (p + risen (take (i + 1) own) t) (q + risen (take j other) t) ≡ max p q + (risen out t + cond b (max (x + k.rise) y - max x y) 0)
+merging_most : (p q : ℕ) (own other : List Jump) (i j x y : ℕ) (out : List Jump) (k : Jump) → Merging p q own other i j x y out → AreFrom 1 own → slice_get own i ≡ Some k
+    → (t : ℕ) (b : Bool) → nat_lt k.after t ≡ b → max (p + risen (take (i + 1) own) t) (q + risen (take j other) t) ≡ max p q + (risen out t + cond b (max (x + k.rise) y - max x y) 0)
 merging_most p q own other i j x y out k m order at t true late =
     let lt : k.after < t = grind (arith, nat_tests) in
     let o : x ≡ p + total_rise (take i own) = m.own_is in
@@ -232,14 +239,17 @@ merging_most p q own other i j x y out k m order at t false late =
     ap (λ z. max (p + z) (q + risen (take j other) t)) f ∙ (g ∙ (let z : max p q + risen out t ≡ max p q + (risen out t + 0) = omega arith in z))
 
 -- the next jump of the first function is taken
-pub merging_own : (p q : ℕ) (own other : List Jump) (i j x y : ℕ) (out : List Jump) (k : Jump) → Merging p q own other i j x y out → AreFrom 1 own → slice_get own i ≡ Some k → ((o : Jump) → slice_get other j ≡ Some o → k.after ≤ o.after) → Merging p q own other (i + 1) j (x + k.rise) y (grown_jumps k.after (max x y) (max (x + k.rise) y) out)
+pub merging_own : (p q : ℕ) (own other : List Jump) (i j x y : ℕ) (out : List Jump) (k : Jump) → Merging p q own other i j x y out → AreFrom 1 own
+    → slice_get own i ≡ Some k → ((o : Jump) → slice_get other j ≡ Some o → k.after ≤ o.after)
+    → Merging p q own other (i + 1) j (x + k.rise) y (grown_jumps k.after (max x y) (max (x + k.rise) y) out)
 merging_own p q own other i j x y out k m order at next =
     let o : x ≡ p + total_rise (take i own) = m.own_is in
     let a : total_rise (take (i + 1) own) ≡ total_rise (take i own) + k.rise = total_more own i k at in
     let le : max x y ≤ max (x + k.rise) y = omega arith in
     let s : max x y ≡ max p q + total_rise out = m.sum in
     let from : 1 ≤ k.after = after_later 1 own i k order at in
-    let last : AreJumpsBefore (k.after + 1) (grown_jumps k.after (max x y) (max (x + k.rise) y) out) = below_grown (k.after + 1) k.after (max x y) (max (x + k.rise) y) out (m.own_last k at) (omega arith) in
+    let last : AreJumpsBefore (k.after + 1) (grown_jumps k.after (max x y) (max (x + k.rise) y) out) = below_grown (k.after + 1) k.after (max x y) (max (x + k.rise) y)
+        out (m.own_last k at) (omega arith) in
     let g : total_rise (grown_jumps k.after (max x y) (max (x + k.rise) y) out) ≡ total_rise out + (max (x + k.rise) y - max x y) = total_grown k.after (max x y) (max (x + k.rise) y) out le in
     record {
       own_is = omega arith;
@@ -249,18 +259,23 @@ merging_own p q own other i j x y out k m order at next =
       own_past = λ o2 at2 t lt. taken_more 1 own i k t order at (let l : k.after ≤ o2.after = next o2 at2 in omega arith);
       other_past = λ k2 at2 t lt. m.other_past k at t (let l : k.after ≤ k2.after = next_later 1 own i k k2 order at at2 in omega arith);
       order = from_grown k.after (max x y) (max (x + k.rise) y) out m.order (m.own_last k at) from;
-      own_last = λ k2 at2. below_later (k.after + 1) (k2.after + 1) (grown_jumps k.after (max x y) (max (x + k.rise) y) out) (let l : k.after ≤ k2.after = next_later 1 own i k k2 order at at2 in omega arith) last;
+      own_last = λ k2 at2. below_later (k.after + 1) (k2.after + 1) (grown_jumps k.after (max x y) (max (x + k.rise) y) out)
+          (let l : k.after ≤ k2.after = next_later 1 own i k k2 order at at2 in omega arith) last;
       other_last = λ o2 at2. below_later (k.after + 1) (o2.after + 1) (grown_jumps k.after (max x y) (max (x + k.rise) y) out) (let l : k.after ≤ o2.after = next o2 at2 in omega arith) last;
       below = λ n h1 h2. below_grown n k.after (max x y) (max (x + k.rise) y) out (m.below n h1 h2) (below_at n own i k h1 at);
     }
 
 -- the next jump of the second function is taken
-pub merging_other : (p q : ℕ) (own other : List Jump) (i j x y : ℕ) (out : List Jump) (k : Jump) → Merging p q own other i j x y out → AreFrom 1 other → slice_get other j ≡ Some k → ((o : Jump) → slice_get own i ≡ Some o → k.after ≤ o.after) → Merging p q own other i (j + 1) x (y + k.rise) (grown_jumps k.after (max x y) (max x (y + k.rise)) out)
+pub merging_other : (p q : ℕ) (own other : List Jump) (i j x y : ℕ) (out : List Jump) (k : Jump) → Merging p q own other i j x y out → AreFrom 1 other
+    → slice_get other j ≡ Some k → ((o : Jump) → slice_get own i ≡ Some o → k.after ≤ o.after)
+    → Merging p q own other i (j + 1) x (y + k.rise) (grown_jumps k.after (max x y) (max x (y + k.rise)) out)
 merging_other p q own other i j x y out k m order at next =
-    let r : Merging q p other own (j + 1) i (y + k.rise) x (grown_jumps k.after (max y x) (max (y + k.rise) x) out) = merging_own q p other own j i y x out k (merging_turned p q own other i j x y out m) order at next in
+    let r : Merging q p other own (j + 1) i (y + k.rise) x (grown_jumps k.after (max y x) (max (y + k.rise) x) out) = merging_own q p other own j i y x out k
+        (merging_turned p q own other i j x y out m) order at next in
     let a : max y x ≡ max x y = omega arith in
     let b : max (y + k.rise) x ≡ max x (y + k.rise) = omega arith in
-    let e : grown_jumps k.after (max y x) (max (y + k.rise) x) out ≡ grown_jumps k.after (max x y) (max x (y + k.rise)) out = ap (λ z. grown_jumps k.after z (max (y + k.rise) x) out) a ∙ ap (λ z. grown_jumps k.after (max x y) z out) b in
+    let e : grown_jumps k.after (max y x) (max (y + k.rise) x) out ≡ grown_jumps k.after (max x y) (max x (y + k.rise)) out = ap
+        (λ z. grown_jumps k.after z (max (y + k.rise) x) out) a ∙ ap (λ z. grown_jumps k.after (max x y) z out) b in
     subst (λ (js : List Jump). Merging p q own other i (j + 1) x (y + k.rise) js) e (merging_turned q p other own (j + 1) i (y + k.rise) x (grown_jumps k.after (max y x) (max (y + k.rise) x) out) r)
 
 -- all jumps of both were taken

@@ -20,7 +20,8 @@ jump_there js i lt = slice_get-get_or js i (record { after = 0; rise = 0 }) lt
 
 -- the jumps are in order of time, as a list of numbers is
 pub in_order : (js : List Jump) → AreFrom 1 js → IsNonDecreasingBy (λ (j : Jump). j.after) js
-in_order js order = IsNonDecreasingBy-from_all_adjacent (λ (j : Jump). j.after) js (λ k d lt. next_later 1 js k (slice_index_or js k d) (slice_index_or js (k + 1) d) order (slice_get-get_or js k d (omega arith)) (slice_get-get_or js (k + 1) d (omega arith)))
+in_order js order = IsNonDecreasingBy-from_all_adjacent (λ (j : Jump). j.after) js
+    (λ k d lt. next_later 1 js k (slice_index_or js k d) (slice_index_or js (k + 1) d) order (slice_get-get_or js k d (omega arith)) (slice_get-get_or js (k + 1) d (omega arith)))
 
 -- those in front of a place have risen
 reached_all : (js : List Jump) (t i : ℕ) → AreFrom 1 js → IsPlaceReached js t i → risen (take i js) t ≡ total_rise (take i js)
@@ -85,7 +86,8 @@ pub levels_more : (p : ℕ) (js : List Jump) (i : ℕ) (j : Jump) → slice_get 
 levels_more p js i j at = ap (λ k. levels p (take k js)) (add-one i) ∙ levels_suc p js i j at
 
 -- the value at a time is that after the jumps in front of its place
-pub value_there : (n p : ℕ) (js : List Jump) (ls xs : List ℕ) (t i : ℕ) → values n p js ≡ xs → IsFunctionKept n p js ls → 1 ≤ t → t ≤ length xs → IsJumpPlace js t i → slice_index (p ∷ ls) i ≡ value_at xs t
+pub value_there : (n p : ℕ) (js : List Jump) (ls xs : List ℕ) (t i : ℕ) → values n p js ≡ xs → IsFunctionKept n p js ls → 1 ≤ t → t ≤ length xs → IsJumpPlace js t i
+    → slice_index (p ∷ ls) i ≡ value_at xs t
 value_there n p js ls xs t i e k from to place =
     let is : n ≡ length xs = long n p js xs e in
     let r : risen js t ≡ total_rise (take i js) = place_risen js t i k.kept.order place in
@@ -111,7 +113,8 @@ value_rises n p js xs t s e from le to =
     omega arith
 
 -- a place in what a call saw of the jumps is one of the values after it
-pub place_within : (n p : ℕ) (js : List Jump) (ls : List ℕ) (seen : List Jump) (seen_levels : List ℕ) (t i : ℕ) → IsFunctionKept n p js ls → seen ≡ js → seen_levels ≡ ls → IsJumpPlace seen t i → i ≤ length seen_levels
+pub place_within : (n p : ℕ) (js : List Jump) (ls : List ℕ) (seen : List Jump) (seen_levels : List ℕ) (t i : ℕ) → IsFunctionKept n p js ls → seen ≡ js → seen_levels ≡ ls
+    → IsJumpPlace seen t i → i ≤ length seen_levels
 place_within n p js ls seen seen_levels t i k e f place =
     let a : length seen ≡ length js = ap length e in
     let b : length seen_levels ≡ length js = ap length f ∙ (ap length k.levels_are ∙ levels_long p js) in
@@ -119,6 +122,7 @@ place_within n p js ls seen seen_levels t i k e f place =
     omega arith
 
 -- what a call then read is the value at the time
-pub value_seen : (n p : ℕ) (js : List Jump) (ls xs : List ℕ) (seen : List Jump) (seen_levels : List ℕ) (t i : ℕ) → values n p js ≡ xs → IsFunctionKept n p js ls → 1 ≤ t → t ≤ length xs → seen ≡ js → seen_levels ≡ ls → IsJumpPlace seen t i → slice_index (p ∷ seen_levels) i ≡ value_at xs t
+pub value_seen : (n p : ℕ) (js : List Jump) (ls xs : List ℕ) (seen : List Jump) (seen_levels : List ℕ) (t i : ℕ) → values n p js ≡ xs → IsFunctionKept n p js ls → 1 ≤ t
+    → t ≤ length xs → seen ≡ js → seen_levels ≡ ls → IsJumpPlace seen t i → slice_index (p ∷ seen_levels) i ≡ value_at xs t
 value_seen n p js ls xs seen seen_levels t i v k from to e f place =
     ap (λ ms. slice_index (p ∷ ms) i) f ∙ value_there n p js ls xs t i v k from to (subst (λ (ks : List Jump). IsJumpPlace ks t i) e place)

@@ -35,7 +35,8 @@ module _ {L : Type 0} (a : Algebra L) (laws : Laws a) (t : Setting) (nodes : Lis
   -- where a node of the new list comes from
   data Origin (i : ℕ) (y : NodeOf L) : Type 0 where
     new : i ≡ length nodes → y ≡ fresh l (Some id) → Origin i y
-    just_dropped : (x : NodeOf L) → slice_get nodes i ≡ Some x → i < length nodes → IsTrue (a.dominates l x.label) → y.dropped_by ≡ Some (length nodes) → y.label ≡ x.label → y.offered ≡ x.offered → y.parent ≡ x.parent → Origin i y
+    just_dropped : (x : NodeOf L) → slice_get nodes i ≡ Some x → i < length nodes → IsTrue (a.dominates l x.label) → y.dropped_by ≡ Some (length nodes)
+        → y.label ≡ x.label → y.offered ≡ x.offered → y.parent ≡ x.parent → Origin i y
     as_before : slice_get nodes i ≡ Some y → (IsTrue (is_kept y) → a.dominates l y.label ≡ false) → Origin i y
 
   origin_of : (i : ℕ) (x y : NodeOf L) → slice_get nodes i ≡ Some x → i < length nodes → Dropping x y → Origin i y

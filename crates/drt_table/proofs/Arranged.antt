@@ -93,7 +93,8 @@ module _ {L : Type 0} (f : Held L → Held L) (k : ℕ) (nodes : List (Held L)) 
       back : (j : ℕ) (y : Held L) → Before k f nodes j y → (x : Held L) × (slice_get nodes j ≡ Some x) × (y.node.label ≡ x.node.label) × (is_node_pending y.node ≡ true → is_node_pending x.node ≡ true)
       back j y b = by_case b.is
         where
-          by_case : ((j ≡ k) × (y ≡ f b.old)) ⊎ (y ≡ b.old) → (x : Held L) × (slice_get nodes j ≡ Some x) × (y.node.label ≡ x.node.label) × (is_node_pending y.node ≡ true → is_node_pending x.node ≡ true)
+          by_case : ((j ≡ k) × (y ≡ f b.old)) ⊎ (y ≡ b.old) → (x : Held L) × (slice_get nodes j ≡ Some x) × (y.node.label ≡ x.node.label)
+              × (is_node_pending y.node ≡ true → is_node_pending x.node ≡ true)
           by_case (inl p) = (b.old, b.at, ap (λ (z : Held L). z.node.label) p.1 ∙ calms.label b.old, λ t. calms.pending b.old (ap (λ (z : Held L). is_node_pending z.node) (sym p.1) ∙ t))
           by_case (inr e) = (b.old, b.at, ap (λ (z : Held L). z.node.label) e, λ t. ap (λ (z : Held L). is_node_pending z.node) (sym e) ∙ t)
 
@@ -108,7 +109,8 @@ module _ {L : Type 0} (f : Held L → Held L) (k : ℕ) (nodes : List (Held L)) 
           by_case (inr e) = (b.old, b.at, ap (λ (z : Held L). is_taken z.node) (sym e) ∙ t)
 
   -- where the changed node goes on waiting if it waited
-  pub change_fresh : (x : Held L) → slice_get nodes k ≡ Some x → (is_node_pending x.node ≡ true → is_node_pending (f x).node ≡ true) → (tickets : List Ticket) → IsFresh nodes tickets → IsFresh (changed k f nodes) tickets
+  pub change_fresh : (x : Held L) → slice_get nodes k ≡ Some x → (is_node_pending x.node ≡ true → is_node_pending (f x).node ≡ true) → (tickets : List Ticket)
+      → IsFresh nodes tickets → IsFresh (changed k f nodes) tickets
   change_fresh x at_x goes_on tickets fresh t at =
       let top = fresh t at in
       let b : After k f nodes t.0.1 top.0 = after_change k f nodes t.0.1 top.0 top.1 in
@@ -121,7 +123,8 @@ module _ {L : Type 0} (f : Held L → Held L) (k : ℕ) (nodes : List (Held L)) 
       by_case y at_y p z (inr e) = ap (λ (h : Held L). is_node_pending h.node) e ∙ p
 
   -- an arena after a change that its lists and its queue don't see
-  pub change_arranged : (a : Algebra L) (links heads : List (Option ℕ)) (tickets : List Ticket) (taken : List ℕ) (x : Held L) → slice_get nodes k ≡ Some x → StaysKept f → Calms f → ((h : Held L) → is_taken (f h).node ≡ true → is_taken h.node ≡ true) → (is_node_pending x.node ≡ true → is_node_pending (f x).node ≡ true)
+  pub change_arranged : (a : Algebra L) (links heads : List (Option ℕ)) (tickets : List Ticket) (taken : List ℕ) (x : Held L) → slice_get nodes k ≡ Some x → StaysKept f
+      → Calms f → ((h : Held L) → is_taken (f h).node ≡ true → is_taken h.node ≡ true) → (is_node_pending x.node ≡ true → is_node_pending (f x).node ≡ true)
       → AreArranged a nodes links heads tickets taken → AreArranged a (changed k f nodes) links heads tickets taken
   change_arranged a links heads tickets taken x at kept calms keeps goes_on ok = record {
     linked = changed_linked a f kept k nodes links heads ok.linked;
@@ -132,7 +135,8 @@ module _ {L : Type 0} (f : Held L → Held L) (k : ℕ) (nodes : List (Held L)) 
   }
 
 -- a node that isn't taken needs no place in the list
-pub forget_held : {L : Type 0} (nodes : List (Held L)) (taken rest : List ℕ) (id : ℕ) (h : Held L) → slice_get nodes id ≡ Some h → is_taken h.node ≡ false → ((k : ℕ) → k ≢ id → Contains taken k → Contains rest k) → ((k : ℕ) → Contains rest k → Contains taken k) → AreHeld nodes taken → AreHeld nodes rest
+pub forget_held : {L : Type 0} (nodes : List (Held L)) (taken rest : List ℕ) (id : ℕ) (h : Held L) → slice_get nodes id ≡ Some h → is_taken h.node ≡ false
+    → ((k : ℕ) → k ≢ id → Contains taken k → Contains rest k) → ((k : ℕ) → Contains rest k → Contains taken k) → AreHeld nodes taken → AreHeld nodes rest
 forget_held {L} nodes taken rest id h at done others within held = record {
   within = λ j k g. let c = at_contains taken k (within k (contains_at rest j k g)) in held.within c.0 k c.1;
   all = λ k y g t. others k (λ e. absurd (true_not_false t (ap (λ (z : Held L). is_taken z.node) (same_Some y h (sym g ∙ (ap (λ j. slice_get nodes j) e ∙ at))) ∙ done))) (held.all k y g t);
@@ -164,14 +168,16 @@ module _ {L : Type 0} (nodes : List (Held L)) (z : Held L) where
     back = λ k y lt at. by_place k y lt (at_pushed nodes z k y at);
   }
     where
-      by_place : (k : ℕ) (y : Held L) → k < length nodes → ((k < length nodes) × (slice_get nodes k ≡ Some y)) ⊎ ((k ≡ length nodes) × (y ≡ z)) → (x : Held L) × (slice_get nodes k ≡ Some x) × (y.node.label ≡ x.node.label) × (is_node_pending y.node ≡ true → is_node_pending x.node ≡ true)
+      by_place : (k : ℕ) (y : Held L) → k < length nodes → ((k < length nodes) × (slice_get nodes k ≡ Some y)) ⊎ ((k ≡ length nodes) × (y ≡ z))
+          → (x : Held L) × (slice_get nodes k ≡ Some x) × (y.node.label ≡ x.node.label) × (is_node_pending y.node ≡ true → is_node_pending x.node ≡ true)
       by_place k y lt (inl p) = (y, p.1, refl, λ t. t)
       by_place k y lt (inr p) = absurd (let e : k ≡ length nodes = p.0 in omega arith)
 
   pub push_held : is_taken z.node ≡ false → StayHeld nodes (nodes ++ z ∷ [])
   push_held idle = record { longer = let e : length (nodes ++ z ∷ []) ≡ length nodes + 1 = length_push nodes z in omega arith; back = λ k y at t. by_place k y t (at_pushed nodes z k y at) }
     where
-      by_place : (k : ℕ) (y : Held L) → is_taken y.node ≡ true → ((k < length nodes) × (slice_get nodes k ≡ Some y)) ⊎ ((k ≡ length nodes) × (y ≡ z)) → (x : Held L) × (slice_get nodes k ≡ Some x) × (is_taken x.node ≡ true)
+      by_place : (k : ℕ) (y : Held L) → is_taken y.node ≡ true → ((k < length nodes) × (slice_get nodes k ≡ Some y)) ⊎ ((k ≡ length nodes) × (y ≡ z))
+          → (x : Held L) × (slice_get nodes k ≡ Some x) × (is_taken x.node ≡ true)
       by_place k y t (inl p) = (y, p.1, t)
       by_place k y t (inr p) = absurd (true_not_false t (ap (λ (h : Held L). is_taken h.node) p.1 ∙ idle))
 
@@ -184,7 +190,8 @@ module _ {L : Type 0} (a : Algebra L) (l : L) (parent deadline bound : ℕ) (xs 
   drops_calmly number h true = (refl, λ t. absurd (cc), λ t. absurd (cc))
   drops_calmly number h false = (refl, λ t. t, λ t. t)
 
-  drop_calms : (h : Held L) → ((drop_held a l (length xs) h).node.label ≡ h.node.label) × (is_node_pending (drop_held a l (length xs) h).node ≡ true → is_node_pending h.node ≡ true) × (is_taken (drop_held a l (length xs) h).node ≡ true → is_taken h.node ≡ true)
+  drop_calms : (h : Held L) → ((drop_held a l (length xs) h).node.label ≡ h.node.label)
+      × (is_node_pending (drop_held a l (length xs) h).node ≡ true → is_node_pending h.node ≡ true) × (is_taken (drop_held a l (length xs) h).node ≡ true → is_taken h.node ≡ true)
   drop_calms h = drops_calmly (length xs) h (is_kept h.node && a.dominates l h.node.label)
 
   added_stays : StayWaiting xs (map (drop_held a l (length xs)) xs ++ fresh_held l (Some parent) ∷ [])
@@ -193,7 +200,8 @@ module _ {L : Type 0} (a : Algebra L) (l : L) (parent deadline bound : ℕ) (xs 
     back = λ k y lt at. by_place k y lt (before_push (drop_held a l (length xs)) xs (fresh_held l (Some parent)) k y at);
   }
     where
-      by_place : (k : ℕ) (y : Held L) → k < length xs → Pushed (drop_held a l (length xs)) xs (fresh_held l (Some parent)) k y → (x : Held L) × (slice_get xs k ≡ Some x) × (y.node.label ≡ x.node.label) × (is_node_pending y.node ≡ true → is_node_pending x.node ≡ true)
+      by_place : (k : ℕ) (y : Held L) → k < length xs → Pushed (drop_held a l (length xs)) xs (fresh_held l (Some parent)) k y → (x : Held L) × (slice_get xs k ≡ Some x)
+          × (y.node.label ≡ x.node.label) × (is_node_pending y.node ≡ true → is_node_pending x.node ≡ true)
       by_place k y lt (earlier x at e less) = (x, at, ap (λ (h : Held L). h.node.label) e ∙ (drop_calms x).0, λ t. (drop_calms x).1 (ap (λ (h : Held L). is_node_pending h.node) (sym e) ∙ t))
       by_place k y lt (last e is) = absurd (omega arith)
 
@@ -203,7 +211,8 @@ module _ {L : Type 0} (a : Algebra L) (l : L) (parent deadline bound : ℕ) (xs 
   added_held : StayHeld xs (map (drop_held a l (length xs)) xs ++ fresh_held l (Some parent) ∷ [])
   added_held = record { longer = let e = length-added in omega arith; back = λ k y at t. by_place k y t (before_push (drop_held a l (length xs)) xs (fresh_held l (Some parent)) k y at) }
     where
-      by_place : (k : ℕ) (y : Held L) → is_taken y.node ≡ true → Pushed (drop_held a l (length xs)) xs (fresh_held l (Some parent)) k y → (x : Held L) × (slice_get xs k ≡ Some x) × (is_taken x.node ≡ true)
+      by_place : (k : ℕ) (y : Held L) → is_taken y.node ≡ true → Pushed (drop_held a l (length xs)) xs (fresh_held l (Some parent)) k y
+          → (x : Held L) × (slice_get xs k ≡ Some x) × (is_taken x.node ≡ true)
       by_place k y t (earlier x at e less) = (x, at, (drop_calms x).2 (ap (λ (h : Held L). is_taken h.node) (sym e) ∙ t))
       by_place k y t (last e is) = absurd (let taken : is_taken y.node ≡ false = ap (λ (h : Held L). is_taken h.node) is in true_not_false t taken)
 
@@ -269,7 +278,8 @@ pub close_keeps : {L : Type 0} (h : Held L) → is_taken (close_node h).node ≡
 close_keeps h t = done_not (is_taken h.node) t
 
 -- taking the next node
-module _ {L : Type 0} (a : Algebra L) (nodes : List (Held L)) (links heads : List (Option ℕ)) (tickets : List Ticket) (taken : List ℕ) (ok : AreArranged a nodes links heads tickets taken) (id w : ℕ) (next : Some id ≡ earliest (λ (h : Held L). is_node_pending h.node) (held_offset a) nodes) where
+module _ {L : Type 0} (a : Algebra L) (nodes : List (Held L)) (links heads : List (Option ℕ)) (tickets : List Ticket) (taken : List ℕ)
+    (ok : AreArranged a nodes links heads tickets taken) (id w : ℕ) (next : Some id ≡ earliest (λ (h : Held L). is_node_pending h.node) (held_offset a) nodes) where
   found : Earliest (λ (h : Held L). is_node_pending h.node) (held_offset a) nodes id
   found = found_earliest (λ (h : Held L). is_node_pending h.node) (held_offset a) nodes id (sym next)
 
@@ -279,12 +289,16 @@ module _ {L : Type 0} (a : Algebra L) (nodes : List (Held L)) (links heads : Lis
   pub next_waits : 0 < length tickets
   next_waits = let c = ok.waiting.all id found.item next_within found.at found.passes in let lt : c.0 < length tickets = c.1 in omega arith
 
-  pub taken_waiting : (rest : List Ticket) (t : Ticket) → slice_get tickets 0 ≡ Some t → Some t.0.1 ≡ earliest (λ (h : Held L). is_node_pending h.node) (held_offset a) nodes → IsPermutation tickets (t ∷ rest) → AreWaiting a (changed id (take_by w) nodes) rest (length (changed id (take_by w) nodes))
+  pub taken_waiting : (rest : List Ticket) (t : Ticket) → slice_get tickets 0 ≡ Some t
+      → Some t.0.1 ≡ earliest (λ (h : Held L). is_node_pending h.node) (held_offset a) nodes → IsPermutation tickets (t ∷ rest)
+      → AreWaiting a (changed id (take_by w) nodes) rest (length (changed id (take_by w) nodes))
   taken_waiting rest t at is_next perm =
       let same : t.0.1 ≡ id = same_Some t.0.1 id (is_next ∙ sym next) in
-      let here : slice_get (changed id (take_by w) nodes) t.0.1 ≡ Some (take_by w found.item) = ap (λ k. slice_get (changed id (take_by w) nodes) k) same ∙ changed_at id (take_by w) nodes found.item found.at in
+      let here : slice_get (changed id (take_by w) nodes) t.0.1 ≡ Some (take_by w found.item) = ap (λ k. slice_get (changed id (take_by w) nodes) k) same
+          ∙ changed_at id (take_by w) nodes found.item found.at in
       popped_ticket a (changed id (take_by w) nodes) tickets rest (length (changed id (take_by w) nodes)) t (take_by w found.item)
-      (subst (λ n. AreWaiting a (changed id (take_by w) nodes) tickets n) (sym (length-changed id (take_by w) nodes)) (still_waiting a nodes (changed id (take_by w) nodes) tickets (change_stays (take_by w) id nodes (take_calms w)) ok.waiting)) here refl perm
+      (subst (λ n. AreWaiting a (changed id (take_by w) nodes) tickets n) (sym (length-changed id (take_by w) nodes))
+          (still_waiting a nodes (changed id (take_by w) nodes) tickets (change_stays (take_by w) id nodes (take_calms w)) ok.waiting)) here refl perm
 
 pub not_pending : {L : Type 0} (n : NodeOf L) → is_taken n ≡ true → is_node_pending n ≡ false
 not_pending n = by_state n.state

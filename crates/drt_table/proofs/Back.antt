@@ -25,7 +25,8 @@ module _ {L : Type 0} (a : Algebra L) (t : Setting) (nodes : List (NodeOf L)) wh
   rest_start i n at = (n, at, λ u before w. w)
 
   module _ (laws : Laws a) (facts : Facts a t nodes) where
-    rest_at : (done : List ℕ) (i : ℕ) (l : L) (n : NodeOf L) → slice_get nodes i ≡ Some n → ((u : ℕ) (before : List ℕ) → WalkTo a t u before n.label → IsWalkBack a t (done ++ u ∷ before) l) → (o : Option ℕ) → n.parent ≡ o → IsRest (done ++ a.vertex n.label ∷ []) o l
+    rest_at : (done : List ℕ) (i : ℕ) (l : L) (n : NodeOf L) → slice_get nodes i ≡ Some n
+        → ((u : ℕ) (before : List ℕ) → WalkTo a t u before n.label → IsWalkBack a t (done ++ u ∷ before) l) → (o : Option ℕ) → n.parent ≡ o → IsRest (done ++ a.vertex n.label ∷ []) o l
     rest_at done i l n at h None e =
         let r : IsRoot a t n = facts.roots i n at e in
         let w = facts.walks i n at in
@@ -40,7 +41,8 @@ module _ {L : Type 0} (a : Algebra L) (t : Setting) (nodes : List (NodeOf L)) wh
           λ u before walk.
               let same : a.vertex m ≡ u = walk_vertex a laws t u before m walk in
               let to : ℕ = (edge_of t.graph u c.edge).to in
-              let longer : WalkTo a t to (u ∷ before) n.label = (c.edge, m, walk, subst (λ (x : ℕ). c.edge < out_degree t.graph x) same c.within, refl, c.label, walk_range a laws t w.0 w.1 n.label w.2) in
+              let longer : WalkTo a t to (u ∷ before)
+                  n.label = (c.edge, m, walk, subst (λ (x : ℕ). c.edge < out_degree t.graph x) same c.within, refl, c.label, walk_range a laws t w.0 w.1 n.label w.2) in
               let vertex : to ≡ a.vertex n.label = sym (walk_vertex a laws t to (u ∷ before) n.label longer) in
               subst (λ (ws : List ℕ). IsWalkBack a t ws l) (sym (append_assoc done (a.vertex n.label ∷ []) (u ∷ before)))
               (subst (λ (x : ℕ). IsWalkBack a t (done ++ x ∷ (u ∷ before)) l) vertex (h to (u ∷ before) longer)),

@@ -21,7 +21,8 @@ pub record KeepsShape {L : Type 0} (f : NodeOf L → NodeOf L) : Type 0 where
   pub shape : (n : NodeOf L) → SameShape (f n) n
 
 pub shape_of : {L : Type 0} (f : NodeOf L → NodeOf L) → KeepsShape f → (i k : ℕ) (m n : NodeOf L) → ((i ≡ k) × (m ≡ f n)) ⊎ (m ≡ n) → SameShape m n
-shape_of f keeps i k m n (inl p) = record { label = ap (λ x. x.label) p.1 ∙ (keeps.shape n).label; dropped_by = ap (λ x. x.dropped_by) p.1 ∙ (keeps.shape n).dropped_by; parent = ap (λ x. x.parent) p.1 ∙ (keeps.shape n).parent }
+shape_of f keeps i k m n (inl p) = record
+    { label = ap (λ x. x.label) p.1 ∙ (keeps.shape n).label; dropped_by = ap (λ x. x.dropped_by) p.1 ∙ (keeps.shape n).dropped_by; parent = ap (λ x. x.parent) p.1 ∙ (keeps.shape n).parent }
 shape_of f keeps i k m n (inr q) = record { label = ap (λ x. x.label) q; dropped_by = ap (λ x. x.dropped_by) q; parent = ap (λ x. x.parent) q }
 
 module _ {L : Type 0} (a : Algebra L) (t : Setting) where
@@ -79,7 +80,8 @@ module _ {L : Type 0} (a : Algebra L) (t : Setting) where
         }
 
     offered_at : (i : ℕ) (n : NodeOf L) (b : Before k f nodes i n) → ((i ≡ k) × (n ≡ f b.old)) ⊎ (n ≡ b.old) → n.offered ≤ out_degree t.graph (a.vertex b.old.label)
-    offered_at i n b (inl p) = subst (λ (m : NodeOf L). m.offered ≤ out_degree t.graph (a.vertex b.old.label)) (sym p.1) (allows.offered b.old (subst (λ (j : ℕ). slice_get nodes j ≡ Some b.old) p.0 b.at))
+    offered_at i n b (inl p) = subst (λ (m : NodeOf L). m.offered ≤ out_degree t.graph (a.vertex b.old.label)) (sym p.1)
+        (allows.offered b.old (subst (λ (j : ℕ). slice_get nodes j ≡ Some b.old) p.0 b.at))
     offered_at i n b (inr q) = subst (λ (m : NodeOf L). m.offered ≤ out_degree t.graph (a.vertex b.old.label)) (sym q) (facts.offered i b.old b.at)
 
     offered : (i : ℕ) (n : NodeOf L) → slice_get (changed k f nodes) i ≡ Some n → n.offered ≤ out_degree t.graph (a.vertex n.label)
@@ -87,18 +89,21 @@ module _ {L : Type 0} (a : Algebra L) (t : Setting) where
         let b : Before k f nodes i n = old_of i n h in
         subst (λ (l : L). n.offered ≤ out_degree t.graph (a.vertex l)) (sym (old_shape i n b).label) (offered_at i n b b.is)
 
-    covered_at : (i : ℕ) (n : NodeOf L) (e : ℕ) (b : Before k f nodes i n) → ((i ≡ k) × (n ≡ f b.old)) ⊎ (n ≡ b.old) → e < n.offered → IsTrue (in_range a t (extended a t b.old.label e)) → IsCovered a t nodes (extended a t b.old.label e)
+    covered_at : (i : ℕ) (n : NodeOf L) (e : ℕ) (b : Before k f nodes i n) → ((i ≡ k) × (n ≡ f b.old)) ⊎ (n ≡ b.old) → e < n.offered
+        → IsTrue (in_range a t (extended a t b.old.label e)) → IsCovered a t nodes (extended a t b.old.label e)
     covered_at i n e b (inl p) lt r = allows.covered b.old e (subst (λ (j : ℕ). slice_get nodes j ≡ Some b.old) p.0 b.at) (subst (λ (m : NodeOf L). e < m.offered) p.1 lt) r
     covered_at i n e b (inr q) lt r = facts.covered i b.old e b.at (subst (λ (m : NodeOf L). e < m.offered) q lt) r
 
-    covered : (i : ℕ) (n : NodeOf L) (e : ℕ) → slice_get (changed k f nodes) i ≡ Some n → e < n.offered → IsTrue (in_range a t (extended a t n.label e)) → IsCovered a t (changed k f nodes) (extended a t n.label e)
+    covered : (i : ℕ) (n : NodeOf L) (e : ℕ) → slice_get (changed k f nodes) i ≡ Some n → e < n.offered → IsTrue (in_range a t (extended a t n.label e))
+        → IsCovered a t (changed k f nodes) (extended a t n.label e)
     covered i n e h lt r =
         let b : Before k f nodes i n = old_of i n h in
         let s : SameShape n b.old = old_shape i n b in
         covered_after k f nodes (extended a t n.label e) keeps
         (subst (λ (l : L). IsCovered a t nodes (extended a t l e)) (sym s.label) (covered_at i n e b b.is lt (subst (λ (l : L). IsTrue (in_range a t (extended a t l e))) s.label r)))
 
-    done_at : (i : ℕ) (n : NodeOf L) (b : Before k f nodes i n) → ((i ≡ k) × (n ≡ f b.old)) ⊎ (n ≡ b.old) → KeptAt a t nodes i b.old → n.state ≡ Done → n.offered ≡ out_degree t.graph (a.vertex b.old.label)
+    done_at : (i : ℕ) (n : NodeOf L) (b : Before k f nodes i n) → ((i ≡ k) × (n ≡ f b.old)) ⊎ (n ≡ b.old) → KeptAt a t nodes i b.old → n.state ≡ Done
+        → n.offered ≡ out_degree t.graph (a.vertex b.old.label)
     done_at i n b (inl p) h e = ap (λ m. m.offered) p.1 ∙ allows.done b.old (subst (λ (j : ℕ). slice_get nodes j ≡ Some b.old) p.0 b.at) h.kept (ap (λ m. m.state) (sym p.1) ∙ e)
     done_at i n b (inr q) h e = ap (λ m. m.offered) q ∙ facts.done i b.old h (ap (λ m. m.state) (sym q) ∙ e)
 

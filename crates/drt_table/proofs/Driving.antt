@@ -46,7 +46,8 @@ module _ {L : Type 0} (a : Algebra L) (t : Setting) where
 
   effect_offered_at : (s : State L) (e : Entry) (id k : ℕ) (n : NodeOf L) (o : Option (NodeOf L)) → slice_get s.nodes id ≡ o → slice_get s.nodes id ≡ Some n → AddsEntry s e (offered_at a t s e id k o)
   effect_offered_at s e id k n None h at = absurd (none-some n (sym h ∙ at))
-  effect_offered_at s e id k n (Some m) h at = effect_ranged s e (counted a t id s.nodes) id (extended a t m.label k) (first (dominating a t (extended a t m.label k)) (counted a t id s.nodes)) (in_range a t (extended a t m.label k))
+  effect_offered_at s e id k n (Some m) h at = effect_ranged s e (counted a t id s.nodes) id (extended a t m.label k)
+      (first (dominating a t (extended a t m.label k)) (counted a t id s.nodes)) (in_range a t (extended a t m.label k))
 
   effect_offer : (s : State L) (w id k : ℕ) → CanStep a t s w (Offer id k) → Effect s (record { worker = w; step = Offer id k }) (step_of a t s w (Offer id k))
   effect_offer s w id k can = effect_cond s _ (is_full a t s) _ refl (effect_offered_at s _ id k can.0 (slice_get s.nodes id) refl can.1.at)
@@ -84,7 +85,8 @@ module _ {L : Type 0} (a : Algebra L) (d : ℕ) (old new : View L) (w : ℕ) (r 
   finished_stops : setting_of new ≡ setting_of old → state_of new ≡ state_of old → is_finished a (setting_of old) (state_of old) ≡ true → StopsAt a new Finished
   finished_stops set st f = subst (λ (t : Setting). IsTrue (is_finished a t (state_of new))) (sym set) (subst (λ (s : State L). IsTrue (is_finished a (setting_of old) s)) (sym st) f)
 
-  after_effect : (step : TableStep) → CanApply a old w step → IsTableStep a old new w step r → IsDriven a (setting_of old) d (state_of old) w step → is_finished a (setting_of old) (state_of old) ≡ false → Effect a (setting_of old) (state_of old) (record { worker = w; step = step }) (outcome a old w step) → Turn a d old new r
+  after_effect : (step : TableStep) → CanApply a old w step → IsTableStep a old new w step r → IsDriven a (setting_of old) d (state_of old) w step
+      → is_finished a (setting_of old) (state_of old) ≡ false → Effect a (setting_of old) (state_of old) (record { worker = w; step = step }) (outcome a old w step) → Turn a d old new r
   after_effect step can h driven f (spent full e s) = record {
     went_on = λ no. absurd (let yes : ends r ≡ true = ap ends (h.reply_is ∙ e) in true_not_false yes no);
     stopped = λ yes. record { setting = h.setting; state = h.state ∙ s; stops = subst (λ (q : TableReply). StopsAt a new q) (sym (h.reply_is ∙ e)) (spent_stops h.setting (h.state ∙ s) f full) };
@@ -103,7 +105,8 @@ module _ {L : Type 0} (a : Algebra L) (d : ℕ) (old new : View L) (w : ℕ) (r 
   pub after_close : (id j : ℕ) → holder a (setting_of old) (state_of old).nodes ≡ Some j → CanApply a old w (Close id) → IsTableStep a old new w (Close id) r → Turn a d old new r
   after_close id j e can h = after_effect (Close id) can h tt (unfinished j e) (effect_close a (setting_of old) (state_of old) w id)
 
-  take_case : w ≡ d → holder a (setting_of old) (state_of old).nodes ≡ None → CanApply a old w Take → IsTableStep a old new w Take r → TakeEffect a (setting_of old) (state_of old) w (outcome a old w Take) → Turn a d old new r
+  take_case : w ≡ d → holder a (setting_of old) (state_of old).nodes ≡ None → CanApply a old w Take → IsTableStep a old new w Take r
+      → TakeEffect a (setting_of old) (state_of old) w (outcome a old w Take) → Turn a d old new r
   take_case same none can h (finished f e s) = record {
     went_on = λ no. absurd (let yes : ends r ≡ true = ap ends (h.reply_is ∙ e) in true_not_false yes no);
     stopped = λ yes. record { setting = h.setting; state = h.state ∙ s; stops = subst (λ (q : TableReply). StopsAt a new q) (sym (h.reply_is ∙ e)) (finished_stops h.setting (h.state ∙ s) f) };
@@ -129,8 +132,10 @@ module _ {L : Type 0} (a : Algebra L) (w : ℕ) where
       let e : Entry = record { worker = g.worker; step = g.step } in
       let can : CanStep a t (replay_from a t (state_of old) d.more) g.worker g.step =
       subst (λ (s : State L). CanStep a t s g.worker g.step) d.state (subst (λ (x : Setting). CanStep a x (state_of mid) g.worker g.step) d.setting g.can) in
-      let state_t : state_of new ≡ (step_of a t (state_of mid) g.worker g.step).state = subst (λ (x : Setting). state_of new ≡ (step_of a x (state_of mid) g.worker g.step).state) d.setting g.is_step.state in
-      let state_r : state_of new ≡ (step_of a t (replay_from a t (state_of old) d.more) g.worker g.step).state = subst (λ (s : State L). state_of new ≡ (step_of a t s g.worker g.step).state) d.state state_t in
+      let state_t : state_of new ≡ (step_of a t (state_of mid) g.worker g.step).state = subst
+          (λ (x : Setting). state_of new ≡ (step_of a x (state_of mid) g.worker g.step).state) d.setting g.is_step.state in
+      let state_r : state_of new ≡ (step_of a t (replay_from a t (state_of old) d.more) g.worker g.step).state = subst
+          (λ (s : State L). state_of new ≡ (step_of a t s g.worker g.step).state) d.state state_t in
       let log_r : (step_of a t (replay_from a t (state_of old) d.more) g.worker g.step).state.log ≡ (replay_from a t (state_of old) d.more).log ++ e ∷ [] =
       ap (λ (s : State L). s.log) (sym state_r) ∙ (g.log ∙ ap (λ (s : State L). s.log ++ e ∷ []) d.state) in
       let driven : IsDriven a t w (replay_from a t (state_of old) d.more) g.worker g.step =

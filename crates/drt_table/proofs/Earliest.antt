@@ -49,7 +49,8 @@ module _ {A : Type 0} (p : A → Bool) (f : A → ℕ) where
       some_smaller m None e = absurd (cc)
       some_smaller m (Some n) e = absurd (cc)
 
-      at_head : (b : Bool) → p x ≡ b → (least_of p f xs ≡ None → (k : ℕ) (y : A) → slice_get xs k ≡ Some y → p y ≡ false) → cond b (smaller (Some (f x)) (least_of p f xs)) (least_of p f xs) ≡ None → (k : ℕ) (y : A) → slice_get (x ∷ xs) k ≡ Some y → p y ≡ false
+      at_head : (b : Bool) → p x ≡ b → (least_of p f xs ≡ None → (k : ℕ) (y : A) → slice_get xs k ≡ Some y → p y ≡ false)
+          → cond b (smaller (Some (f x)) (least_of p f xs)) (least_of p f xs) ≡ None → (k : ℕ) (y : A) → slice_get (x ∷ xs) k ≡ Some y → p y ≡ false
       at_head true q rest e k y h = absurd (some_smaller (f x) (least_of p f xs) e)
       at_head false q rest e zero y h = subst (λ z. p z ≡ false) (same_Some x y h) q
       at_head false q rest e (suc k) y h = rest e k y h
@@ -135,7 +136,8 @@ module _ {A : Type 0} (p : A → Bool) (f : A → ℕ) where
       with_least None e = refl
       with_least (Some m) e = let l : IsLeast p f xs m = least_is xs m e in absurd (let no : p l.item ≡ false = h l.number l.item l.at in let yes : p l.item ≡ true = l.passes in cc)
 
-  pub earliest_is : (xs : List A) (i : ℕ) (x : A) → slice_get xs i ≡ Some x → p x ≡ true → ((j : ℕ) (y : A) → slice_get xs j ≡ Some y → p y ≡ true → f x ≤ f y) → ((j : ℕ) (y : A) → j < i → slice_get xs j ≡ Some y → p y ≡ true → f x < f y) → Some i ≡ earliest p f xs
+  pub earliest_is : (xs : List A) (i : ℕ) (x : A) → slice_get xs i ≡ Some x → p x ≡ true → ((j : ℕ) (y : A) → slice_get xs j ≡ Some y → p y ≡ true → f x ≤ f y)
+      → ((j : ℕ) (y : A) → j < i → slice_get xs j ≡ Some y → p y ≡ true → f x < f y) → Some i ≡ earliest p f xs
   earliest_is xs i x at passes least before = with_least (least_of p f xs) refl
     where
       no_number : (m : ℕ) (y : A) (b : Bool) → p y ≡ b → f x ≡ m → ((p y ≡ true) → f x < f y) → (p y && (f y == m)) ≡ false

@@ -21,7 +21,8 @@ done_state Done p q = refl
 
 module _ {L : Type 0} (a : Algebra L) (laws : Laws a) (t : Setting) (takes : IsTrue (a.takes_bound t.bound)) (nodes : List (NodeOf L)) (facts : Facts a t nodes) where
   -- each node is dominated by a kept one
-  kept_case : (fuel i : ℕ) (n : NodeOf L) → length nodes ≤ i + suc fuel → slice_get nodes i ≡ Some n → ((d : ℕ) (m : NodeOf L) → slice_get nodes d ≡ Some m → i < d → IsCovered a t nodes m.label) → (o : Option ℕ) → n.dropped_by ≡ o → IsCovered a t nodes n.label
+  kept_case : (fuel i : ℕ) (n : NodeOf L) → length nodes ≤ i + suc fuel → slice_get nodes i ≡ Some n
+      → ((d : ℕ) (m : NodeOf L) → slice_get nodes d ≡ Some m → i < d → IsCovered a t nodes m.label) → (o : Option ℕ) → n.dropped_by ≡ o → IsCovered a t nodes n.label
   kept_case fuel i n h at rest None e = record { by = i; node = n; kept = record { at = at; kept = ap is_none e }; dominates = laws.reflexive n.label }
   kept_case fuel i n h at rest (Some d) e =
       let o : IsDropper a t nodes i n d = facts.dropped i n d at e in

@@ -60,7 +60,8 @@ module _ {L : Type 0} (a : Algebra L) (nodes : List (Held L)) (few : length node
   first_is v (Some i) next =
       (next.held.node, shown v i next.held next.is, λ k n is. let x = meant v k n is in later v i k next.held x.0 n x.2 next.is x.1 (next.most k x.0 x.1 tt))
 
-  pub next_is : (id : ℕ) (g : Held L) (o : Option ℕ) → slice_get nodes id ≡ Some g → IsNext a nodes (a.vertex g.node.label) (Some (rank a id g)) o → IsNextKept a seen (a.vertex g.node.label) id g.node o
+  pub next_is : (id : ℕ) (g : Held L) (o : Option ℕ) → slice_get nodes id ≡ Some g → IsNext a nodes (a.vertex g.node.label) (Some (rank a id g)) o
+      → IsNextKept a seen (a.vertex g.node.label) id g.node o
   next_is id g None at next = λ k n is before. let x = meant (a.vertex g.node.label) k n is in next k x.0 x.1 (lower_for (a.vertex g.node.label) id k g x.0 g.node n refl x.2 x.1 before)
   next_is id g (Some i) at next =
       let v = a.vertex g.node.label in
@@ -75,7 +76,8 @@ module _ {L : Type 0} (a : Algebra L) (nodes : List (Held L)) (few : length node
       )
 
 -- fewer are left after each node of the walk of a vertex
-pub less_left : {L : Type 0} (a : Algebra L) (nodes : List (NodeOf L)) (v id : ℕ) (n : NodeOf L) (o : Option ℕ) → slice_get nodes id ≡ Some n → IsNextKept a nodes v id n o → left_from a nodes o < left_from a nodes (Some id)
+pub less_left : {L : Type 0} (a : Algebra L) (nodes : List (NodeOf L)) (v id : ℕ) (n : NodeOf L) (o : Option ℕ) → slice_get nodes id ≡ Some n
+    → IsNextKept a nodes v id n o → left_from a nodes o < left_from a nodes (Some id)
 less_left a nodes v id n None at next =
     let here : left_from a nodes (Some id) ≡ left_at a nodes id (Some n) = ap (left_at a nodes id) at in
     let within : id < length nodes = slice_get_within nodes id n at in

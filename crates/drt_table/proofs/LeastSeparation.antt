@@ -45,7 +45,8 @@ module _ (g : Digraph) where
       → least ≡ least_of (λ (e : Edge). true) (λ e. e.sep) (out_edges g v)
   edge_end v k least le h = sym (smaller-none least) ∙ (ap (λ xs. smaller least (least_of (λ (e : Edge). true) (λ e. e.sep) xs)) (sym (drop_all k (out_edges g v) le)) ∙ h)
 
-  pub row_more : IsSoundGraph g → (v : ℕ) (least o : Option ℕ) → v < length g.vertices → o ≡ least_of (λ (e : Edge). true) (λ e. e.sep) (out_edges g v) → smaller least (shortest (drop v g.out)) ≡ shortest g.out → smaller (smaller least o) (shortest (drop (v + 1) g.out)) ≡ shortest g.out
+  pub row_more : IsSoundGraph g → (v : ℕ) (least o : Option ℕ) → v < length g.vertices → o ≡ least_of (λ (e : Edge). true) (λ e. e.sep) (out_edges g v)
+      → smaller least (shortest (drop v g.out)) ≡ shortest g.out → smaller (smaller least o) (shortest (drop (v + 1) g.out)) ≡ shortest g.out
   row_more sound v least o lt e h =
       let rows : length g.out ≡ length g.vertices = sound.rows in
       let at : slice_get g.out v ≡ Some (out_edges g v) = slice_get-get_or g.out v [] (omega arith) in

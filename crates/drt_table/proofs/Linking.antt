@@ -123,7 +123,8 @@ pub get_last : {A : Type 0} (xs : List A) (z : A) → slice_get (xs ++ z ∷ [])
 get_last [] z = refl
 get_last (x ∷ xs) z = get_last xs z
 
-module _ {L : Type 0} (a : Algebra L) (nodes : List (Held L)) (links heads : List (Option ℕ)) (ok : AreLinked a nodes links heads) (z : Held L) (kept_z : IsTrue (is_kept z.node)) (room : length nodes < 4294967296) where
+module _ {L : Type 0} (a : Algebra L) (nodes : List (Held L)) (links heads : List (Option ℕ)) (ok : AreLinked a nodes links heads) (z : Held L)
+    (kept_z : IsTrue (is_kept z.node)) (room : length nodes < 4294967296) where
   -- z, after the push
   z_is : IsKeptAt a (nodes ++ z ∷ []) (a.vertex z.node.label) (length nodes) z
   z_is = record { at = get_last nodes z; kept = kept_z; vertex = refl }
@@ -140,7 +141,9 @@ module _ {L : Type 0} (a : Algebra L) (nodes : List (Held L)) (links heads : Lis
   forth v k h is = record { at = get_pushed nodes z k h is.at; kept = is.kept; vertex = is.vertex }
 
   -- what came next still does, where z comes no earlier
-  stays : (v : ℕ) (m q : Option ℕ) → (v ≡ a.vertex z.node.label → IsLinkBelow m (rank a (length nodes) z) → (q ≡ None → ⊥) × ((k : ℕ) (h : Held L) → q ≡ Some k → IsKeptAt a nodes v k h → rank a (length nodes) z ≤ rank a k h)) → IsNext a nodes v m q → IsNext a (nodes ++ z ∷ []) v m q
+  stays : (v : ℕ) (m q : Option ℕ)
+      → (v ≡ a.vertex z.node.label → IsLinkBelow m (rank a (length nodes) z)
+      → (q ≡ None → ⊥) × ((k : ℕ) (h : Held L) → q ≡ Some k → IsKeptAt a nodes v k h → rank a (length nodes) z ≤ rank a k h)) → IsNext a nodes v m q → IsNext a (nodes ++ z ∷ []) v m q
   stays v m None late next = λ k h is b. by_case k h is b (kept_cases v k h is)
     where
       by_case : (k : ℕ) (h : Held L) → IsKeptAt a (nodes ++ z ∷ []) v k h → IsLinkBelow m (rank a k h) → IsKeptAt a nodes v k h ⊎ ((k ≡ length nodes) × (h ≡ z)) → ⊥
@@ -153,11 +156,14 @@ module _ {L : Type 0} (a : Algebra L) (nodes : List (Held L)) (links heads : Lis
       by_case k h is b (inl old) = next.most k h old b
       by_case k h is b (inr p) =
           let r : rank a k h ≡ rank a (length nodes) z = ap (λ j. rank a j h) p.0 ∙ ap (λ (y : Held L). rank a (length nodes) y) p.1 in
-          let le : rank a (length nodes) z ≤ rank a q next.held = (late (sym is.vertex ∙ ap (λ (y : Held L). a.vertex y.node.label) p.1) (subst (λ n. IsLinkBelow m n) r b)).1 q next.held refl next.is in
+          let le : rank a (length nodes) z ≤ rank a q
+              next.held = (late (sym is.vertex ∙ ap (λ (y : Held L). a.vertex y.node.label) p.1) (subst (λ n. IsLinkBelow m n) r b)).1 q next.held refl next.is in
           omega arith
 
   -- z comes first below a rank, where all others below it have less offset
-  is_first : (m : Option ℕ) → IsLinkBelow m (rank a (length nodes) z) → ((k : ℕ) (h : Held L) → IsKeptAt a nodes (a.vertex z.node.label) k h → IsLinkBelow m (rank a k h) → a.offset h.node.label < a.offset z.node.label) → IsGreatest a (nodes ++ z ∷ []) (a.vertex z.node.label) m (length nodes)
+  is_first : (m : Option ℕ) → IsLinkBelow m (rank a (length nodes) z)
+      → ((k : ℕ) (h : Held L) → IsKeptAt a nodes (a.vertex z.node.label) k h → IsLinkBelow m (rank a k h) → a.offset h.node.label < a.offset z.node.label)
+      → IsGreatest a (nodes ++ z ∷ []) (a.vertex z.node.label) m (length nodes)
   is_first m below less = record { held = z; is = z_is; below = below; most = λ k h is b. by_case k h b (kept_cases (a.vertex z.node.label) k h is) }
     where
       by_case : (k : ℕ) (h : Held L) → IsLinkBelow m (rank a k h) → IsKeptAt a nodes (a.vertex z.node.label) k h ⊎ ((k ≡ length nodes) × (h ≡ z)) → rank a k h ≤ rank a (length nodes) z
@@ -192,13 +198,16 @@ module _ {L : Type 0} (a : Algebra L) (nodes : List (Held L)) (links heads : Lis
 
   -- the links, by those of the earlier nodes and that of z
   abbrev Earlier : List (Option ℕ) → Type 0
-  Earlier links' = (i : ℕ) (h : Held L) (o : Option ℕ) → slice_get nodes i ≡ Some h → IsTrue (is_kept h.node) → slice_get links' i ≡ Some o → IsNext a (nodes ++ z ∷ []) (a.vertex h.node.label) (Some (rank a i h)) o
+  Earlier links' = (i : ℕ) (h : Held L) (o : Option ℕ) → slice_get nodes i ≡ Some h → IsTrue (is_kept h.node) → slice_get links' i ≡ Some o
+      → IsNext a (nodes ++ z ∷ []) (a.vertex h.node.label) (Some (rank a i h)) o
 
   links_at : (links' : List (Option ℕ)) (q : Option ℕ) → length links' ≡ length nodes → Earlier links' → IsNext a (nodes ++ z ∷ []) (a.vertex z.node.label) (Some (rank a (length nodes) z)) q
-      → (i : ℕ) (h : Held L) (o : Option ℕ) → slice_get (nodes ++ z ∷ []) i ≡ Some h → IsTrue (is_kept h.node) → slice_get (links' ++ q ∷ []) i ≡ Some o → IsNext a (nodes ++ z ∷ []) (a.vertex h.node.label) (Some (rank a i h)) o
+      → (i : ℕ) (h : Held L) (o : Option ℕ) → slice_get (nodes ++ z ∷ []) i ≡ Some h → IsTrue (is_kept h.node) → slice_get (links' ++ q ∷ []) i ≡ Some o
+          → IsNext a (nodes ++ z ∷ []) (a.vertex h.node.label) (Some (rank a i h)) o
   links_at links' q len earlier last i h o at kept link = by_place (at_pushed nodes z i h at) (at_pushed links' q i o link)
     where
-      by_place : ((i < length nodes) × (slice_get nodes i ≡ Some h)) ⊎ ((i ≡ length nodes) × (h ≡ z)) → ((i < length links') × (slice_get links' i ≡ Some o)) ⊎ ((i ≡ length links') × (o ≡ q)) → IsNext a (nodes ++ z ∷ []) (a.vertex h.node.label) (Some (rank a i h)) o
+      by_place : ((i < length nodes) × (slice_get nodes i ≡ Some h)) ⊎ ((i ≡ length nodes) × (h ≡ z))
+          → ((i < length links') × (slice_get links' i ≡ Some o)) ⊎ ((i ≡ length links') × (o ≡ q)) → IsNext a (nodes ++ z ∷ []) (a.vertex h.node.label) (Some (rank a i h)) o
       by_place (inl p) (inl r) = earlier i h o p.1 kept r.1
       by_place (inl p) (inr r) = absurd (let lt : i < length nodes = p.0 in let e : i ≡ length links' = r.0 in omega arith)
       by_place (inr p) (inl r) = absurd (let e : i ≡ length nodes = p.0 in let lt : i < length links' = r.0 in omega arith)
@@ -212,10 +221,13 @@ module _ {L : Type 0} (a : Algebra L) (nodes : List (Held L)) (links heads : Lis
   elsewhere v m q ne next = stays v m q (λ e b. absurd (ne e)) next
 
   -- z comes first in the list of its vertex
-  module _ (less : (k : ℕ) (h : Held L) → IsKeptAt a nodes (a.vertex z.node.label) k h → a.offset h.node.label < a.offset z.node.label) (q : Option ℕ) (next : IsNext a nodes (a.vertex z.node.label) None q) where
-    head_first : (v : ℕ) (o : Option ℕ) → slice_get (set heads (a.vertex z.node.label) (Some (length nodes))) v ≡ Some o → (v ≡ a.vertex z.node.label) ⊎ (v ≡ a.vertex z.node.label → ⊥) → IsNext a (nodes ++ z ∷ []) v None o
+  module _ (less : (k : ℕ) (h : Held L) → IsKeptAt a nodes (a.vertex z.node.label) k h → a.offset h.node.label < a.offset z.node.label) (q : Option ℕ)
+      (next : IsNext a nodes (a.vertex z.node.label) None q) where
+    head_first : (v : ℕ) (o : Option ℕ) → slice_get (set heads (a.vertex z.node.label) (Some (length nodes))) v ≡ Some o
+        → (v ≡ a.vertex z.node.label) ⊎ (v ≡ a.vertex z.node.label → ⊥) → IsNext a (nodes ++ z ∷ []) v None o
     head_first v o s (inl e) =
-        let o_is : o ≡ Some (length nodes) = set_here heads (a.vertex z.node.label) (Some (length nodes)) o (subst (λ k. slice_get (set heads (a.vertex z.node.label) (Some (length nodes))) k ≡ Some o) e s) in
+        let o_is : o ≡ Some (length nodes) = set_here heads (a.vertex z.node.label) (Some (length nodes)) o
+            (subst (λ k. slice_get (set heads (a.vertex z.node.label) (Some (length nodes))) k ≡ Some o) e s) in
         subst (λ u. IsNext a (nodes ++ z ∷ []) u None o) (sym e)
         (subst (λ u. IsNext a (nodes ++ z ∷ []) (a.vertex z.node.label) None u) (sym o_is) (is_first None tt (λ k h is b. less k h is)))
     head_first v o s (inr ne) = elsewhere v None o ne (ok.heads_ok v o (sym (set_other heads (a.vertex z.node.label) v (Some (length nodes)) ne) ∙ s))
@@ -224,7 +236,8 @@ module _ {L : Type 0} (a : Algebra L) (nodes : List (Held L)) (links heads : Lis
     earlier_first i h o at kept link = stays (a.vertex h.node.label) (Some (rank a i h)) o (λ e b. absurd (not_below e b)) (ok.links_ok i h o at kept link)
       where
         not_below : a.vertex h.node.label ≡ a.vertex z.node.label → rank a (length nodes) z < rank a i h → ⊥
-        not_below e b = let lt : rank a i h < rank a (length nodes) z = lower (a.offset h.node.label) (a.offset z.node.label) i (length nodes) (less i h (record { at = at; kept = kept; vertex = e })) in absurd (omega arith)
+        not_below e b = let lt : rank a i h < rank a (length nodes) z = lower (a.offset h.node.label) (a.offset z.node.label) i (length nodes)
+            (less i h (record { at = at; kept = kept; vertex = e })) in absurd (omega arith)
 
     pushed_first : AreLinked a (nodes ++ z ∷ []) (links ++ q ∷ []) (set heads (a.vertex z.node.label) (Some (length nodes)))
     pushed_first = record {
@@ -242,7 +255,8 @@ module _ {L : Type 0} (a : Algebra L) (nodes : List (Held L)) (links heads : Lis
     z_below = newer (a.offset z.node.label) (a.offset g.node.label) (length nodes) p early (slice_get_within nodes p g is_p.at) room
 
     -- a list that has p goes on with no later one than p before z
-    no_earlier : (v : ℕ) (m o : Option ℕ) → v ≡ a.vertex z.node.label → IsLinkBelow m (rank a p g) → IsNext a nodes v m o → (o ≡ None → ⊥) × ((k : ℕ) (h : Held L) → o ≡ Some k → IsKeptAt a nodes v k h → rank a (length nodes) z ≤ rank a k h)
+    no_earlier : (v : ℕ) (m o : Option ℕ) → v ≡ a.vertex z.node.label → IsLinkBelow m (rank a p g) → IsNext a nodes v m o
+        → (o ≡ None → ⊥) × ((k : ℕ) (h : Held L) → o ≡ Some k → IsKeptAt a nodes v k h → rank a (length nodes) z ≤ rank a k h)
     no_earlier v m None e b old = absurd (old p g (subst (λ u. IsKeptAt a nodes u p g) (sym e) is_p) b)
     no_earlier v m (Some o) e b old = (
       λ none. absurd (cc),
@@ -265,7 +279,8 @@ module _ {L : Type 0} (a : Algebra L) (nodes : List (Held L)) (links heads : Lis
         above ne e b = by_rank (rank_cases a nodes ok.few (a.vertex z.node.label) i p h g (subst (λ v. IsKeptAt a nodes v i h) e is_i) is_p)
           where
             by_rank : (rank a i h < rank a p g) ⊎ ((i ≡ p) ⊎ (rank a p g < rank a i h)) → rank a p g < rank a i h
-            by_rank (inl lt) = let l : rank a i h < rank a (length nodes) z = lower (a.offset h.node.label) (a.offset z.node.label) i (length nodes) (less i h (subst (λ v. IsKeptAt a nodes v i h) e is_i) lt) in absurd (omega arith)
+            by_rank (inl lt) = let l : rank a i h < rank a (length nodes) z = lower (a.offset h.node.label) (a.offset z.node.label) i (length nodes)
+                (less i h (subst (λ v. IsKeptAt a nodes v i h) e is_i) lt) in absurd (omega arith)
             by_rank (inr (inl same)) = absurd (ne same)
             by_rank (inr (inr more)) = more
 
@@ -287,7 +302,8 @@ module _ {L : Type 0} (a : Algebra L) (nodes : List (Held L)) (links heads : Lis
       as_many = lengths (set links p (Some (length nodes))) q (length-set links p (Some (length nodes)) ∙ ok.as_many);
       heads_ok = λ v o s. let old : IsNext a nodes v None o = ok.heads_ok v o s in stays v None o (λ e b. no_earlier v None o e tt old) old;
       links_ok = links_at (set links p (Some (length nodes))) q (length-set links p (Some (length nodes)) ∙ ok.as_many) earlier_later
-          (comes_after (Some (rank a p g)) q (λ k h is b. let lt : rank a (length nodes) z < rank a p g = z_below in let l : rank a k h < rank a (length nodes) z = b in let s : rank a k h < rank a p g = omega arith in s) less next);
+          (comes_after (Some (rank a p g)) q (λ k h is b. let lt : rank a (length nodes) z < rank a p g = z_below in let l : rank a k h < rank a (length nodes) z = b in
+              let s : rank a k h < rank a p g = omega arith in s) less next);
     }
 
   -- what came after `last` comes after z
@@ -298,9 +314,11 @@ module _ {L : Type 0} (a : Algebra L) (nodes : List (Held L)) (links heads : Lis
       pushed_later p place.0 place.1 place.2 place.3 q (subst (λ v. IsNext a nodes v (Some (rank a p place.0)) q) place.1.vertex (ok.links_ok p place.0 q place.1.at place.1.kept link))
 
 -- the node after which one comes has a link
-pub place_within : {L : Type 0} (a : Algebra L) (nodes : List (Held L)) (links heads : List (Option ℕ)) → AreLinked a nodes links heads → (v offset : ℕ) (last : Option ℕ) → IsPlace a nodes v offset last → ForSome last (λ p. p < length links)
+pub place_within : {L : Type 0} (a : Algebra L) (nodes : List (Held L)) (links heads : List (Option ℕ)) → AreLinked a nodes links heads → (v offset : ℕ) (last : Option ℕ)
+    → IsPlace a nodes v offset last → ForSome last (λ p. p < length links)
 place_within a nodes links heads ok v offset None place = λ p e. absurd (none-some p e)
-place_within a nodes links heads ok v offset (Some q) place = λ p e. subst (λ (k : ℕ). k < length links) (same_Some q p e) (subst (λ (n : ℕ). q < n) (sym ok.as_many) (slice_get_within nodes q place.0 place.1.at))
+place_within a nodes links heads ok v offset (Some q) place = λ p e. subst (λ (k : ℕ). k < length links) (same_Some q p e)
+    (subst (λ (n : ℕ). q < n) (sym ok.as_many) (slice_get_within nodes q place.0 place.1.at))
 
 -- where none of the vertex is kept, a new node comes first
 pub place_alone : {L : Type 0} (a : Algebra L) (nodes : List (Held L)) (v offset : ℕ) → AllOf (λ (h : Held L). kept_at a v h.node ≡ false) nodes → IsPlace a nodes v offset None

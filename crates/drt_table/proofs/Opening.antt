@@ -22,7 +22,9 @@ module _ {L : Type 0} (a : Algebra L) (laws : Laws a) (t : Setting) where
   higher : (v n : ℕ) (y : NodeOf L) → OpeningAt (v + 1) n y → OpeningAt v (suc n) y
   higher v n y o = record { vertex = o.vertex; low = let h : v + 1 ≤ o.vertex = o.low in omega arith; high = let h : o.vertex < v + 1 + n = o.high in omega arith; range = o.range; is = o.is }
 
-  opening_at_head : (v n : ℕ) (i : ℕ) (y : NodeOf L) (b : Bool) → in_range a t (opening_label a t v) ≡ b → ((j : ℕ) → slice_get (opening_nodes a t (v + 1) n) j ≡ Some y → OpeningAt (v + 1) n y) → slice_get (cond b (fresh (opening_label a t v) None ∷ opening_nodes a t (v + 1) n) (opening_nodes a t (v + 1) n)) i ≡ Some y → OpeningAt v (suc n) y
+  opening_at_head : (v n : ℕ) (i : ℕ) (y : NodeOf L) (b : Bool) → in_range a t (opening_label a t v) ≡ b
+      → ((j : ℕ) → slice_get (opening_nodes a t (v + 1) n) j ≡ Some y → OpeningAt (v + 1) n y)
+      → slice_get (cond b (fresh (opening_label a t v) None ∷ opening_nodes a t (v + 1) n) (opening_nodes a t (v + 1) n)) i ≡ Some y → OpeningAt v (suc n) y
   opening_at_head v n zero y true e rest h = record { vertex = v; low = omega arith; high = omega arith; range = e; is = sym (same_Some (fresh (opening_label a t v) None) y h) }
   opening_at_head v n (suc i) y true e rest h = higher v n y (rest i h)
   opening_at_head v n i y false e rest h = higher v n y (rest i h)
@@ -59,7 +61,8 @@ module _ {L : Type 0} (a : Algebra L) (laws : Laws a) (t : Setting) where
   distinct zero v i j y z h g e = absurd (none-some y h)
   distinct (suc n) v i j y z h g e = distinct_head v n i j y z (in_range a t (opening_label a t v)) (λ p q h2 g2. distinct n (v + 1) p q y z h2 g2 e) h g e
 
-  node_later : (v n : ℕ) (l : L) (b : Bool) → HasNode a t (opening_nodes a t (v + 1) n) l → HasNode a t (cond b (fresh (opening_label a t v) None ∷ opening_nodes a t (v + 1) n) (opening_nodes a t (v + 1) n)) l
+  node_later : (v n : ℕ) (l : L) (b : Bool) → HasNode a t (opening_nodes a t (v + 1) n) l
+      → HasNode a t (cond b (fresh (opening_label a t v) None ∷ opening_nodes a t (v + 1) n) (opening_nodes a t (v + 1) n)) l
   node_later v n l true h = record { number = suc h.number; node = h.node; at = h.at; label = h.label }
   node_later v n l false h = h
 

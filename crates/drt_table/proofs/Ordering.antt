@@ -154,7 +154,8 @@ module _ {L : Type 0} (a : Algebra L) (t : Setting) where
 
   module _ (sound : IsSoundGraph t.graph) where
     -- a Take
-    module _ (s : State L) (w k : ℕ) (order : Order a t s.nodes) (least : Earliest is_node_pending (offset a t) s.nodes k) (near : (j : ℕ) (n : NodeOf L) → slice_get s.nodes j ≡ Some n → IsTrue (is_taken n) → offset a t least.item < offset a t n + separation t) where
+    module _ (s : State L) (w k : ℕ) (order : Order a t s.nodes) (least : Earliest is_node_pending (offset a t) s.nodes k)
+        (near : (j : ℕ) (n : NodeOf L) → slice_get s.nodes j ≡ Some n → IsTrue (is_taken n) → offset a t least.item < offset a t n + separation t) where
       data New (i : ℕ) (m : NodeOf L) : Type 0 where
         this : m.label ≡ least.item.label → m.dropped_by ≡ least.item.dropped_by → m.offered ≡ least.item.offered → m.state ≡ TakenBy w → New i m
         other : slice_get s.nodes i ≡ Some m → New i m
@@ -162,7 +163,9 @@ module _ {L : Type 0} (a : Algebra L) (t : Setting) where
       new_of : (i : ℕ) (m : NodeOf L) (b : Before k (λ n. record n { state = TakenBy w }) s.nodes i m) → ((i ≡ k) × (m ≡ record b.old { state = TakenBy w })) ⊎ (m ≡ b.old) → New i m
       new_of i m b (inl p) =
           let same : b.old ≡ least.item = same_Some b.old least.item (sym b.at ∙ (ap (λ j. slice_get s.nodes j) p.0 ∙ least.at)) in
-          this (ap (λ (z : NodeOf L). z.label) p.1 ∙ ap (λ (z : NodeOf L). z.label) same) (ap (λ (z : NodeOf L). z.dropped_by) p.1 ∙ ap (λ (z : NodeOf L). z.dropped_by) same) (ap (λ (z : NodeOf L). z.offered) p.1 ∙ ap (λ (z : NodeOf L). z.offered) same) (ap (λ (z : NodeOf L). z.state) p.1)
+          this (ap (λ (z : NodeOf L). z.label) p.1 ∙ ap (λ (z : NodeOf L). z.label) same)
+              (ap (λ (z : NodeOf L). z.dropped_by) p.1 ∙ ap (λ (z : NodeOf L). z.dropped_by) same)
+              (ap (λ (z : NodeOf L). z.offered) p.1 ∙ ap (λ (z : NodeOf L). z.offered) same) (ap (λ (z : NodeOf L). z.state) p.1)
       new_of i m b (inr q) = other (b.at ∙ ap (λ z. Some z) (sym q))
 
       new_at : (i : ℕ) (m : NodeOf L) → slice_get (changed k (λ n. record n { state = TakenBy w }) s.nodes) i ≡ Some m → New i m
@@ -226,7 +229,9 @@ module _ {L : Type 0} (a : Algebra L) (t : Setting) where
     near_none : (s : State L) (o : ℕ) → holder a t s.nodes ≡ None → (j : ℕ) (n : NodeOf L) → slice_get s.nodes j ≡ Some n → IsTrue (is_taken n) → o < offset a t n + separation t
     near_none s o e j n at p = absurd (let no : is_taken n ≡ false = none_earliest is_taken (offset a t) s.nodes e j n at in true_not_false p no)
 
-    near_some : (s : State L) (k h : ℕ) (x : NodeOf L) → slice_get s.nodes k ≡ Some x → holder a t s.nodes ≡ Some h → nat_lt (offset_at a t s.nodes k) (offset_at a t s.nodes h + separation t) ≡ true → (j : ℕ) (n : NodeOf L) → slice_get s.nodes j ≡ Some n → IsTrue (is_taken n) → offset a t x < offset a t n + separation t
+    near_some : (s : State L) (k h : ℕ) (x : NodeOf L) → slice_get s.nodes k ≡ Some x → holder a t s.nodes ≡ Some h
+        → nat_lt (offset_at a t s.nodes k) (offset_at a t s.nodes h + separation t) ≡ true → (j : ℕ) (n : NodeOf L) → slice_get s.nodes j ≡ Some n → IsTrue (is_taken n)
+        → offset a t x < offset a t n + separation t
     near_some s k h x at e lt j n bt p =
         let f : Earliest is_taken (offset a t) s.nodes h = found_earliest is_taken (offset a t) s.nodes h e in
         let less : offset_at a t s.nodes k < offset_at a t s.nodes h + separation t = less_is (offset_at a t s.nodes k) (offset_at a t s.nodes h + separation t) lt in
@@ -252,7 +257,8 @@ module _ {L : Type 0} (a : Algebra L) (t : Setting) where
             takes_order s w k order x (near_some s k h x.item x.at f g)
 
     -- an Offer that adds
-    module _ (laws : Laws a) (nodes : List (NodeOf L)) (id : ℕ) (x : NodeOf L) (at : slice_get nodes id ≡ Some x) (held : IsTrue (is_taken x)) (l : L) (later : offset a t x + separation t ≤ a.offset l) (order : Order a t nodes) where
+    module _ (laws : Laws a) (nodes : List (NodeOf L)) (id : ℕ) (x : NodeOf L) (at : slice_get nodes id ≡ Some x) (held : IsTrue (is_taken x)) (l : L)
+        (later : offset a t x + separation t ≤ a.offset l) (order : Order a t nodes) where
       no_sooner : (j : ℕ) (n : NodeOf L) → slice_get nodes j ≡ Some n → WasTaken a t n → offset a t n ≤ a.offset l
       no_sooner j n bt w = let h : offset a t n < offset a t x + separation t = order.near_taken j id n x bt at w held in omega arith
 
@@ -267,7 +273,8 @@ module _ {L : Type 0} (a : Algebra L) (t : Setting) where
       only_pending j n bt k d (TakenBy w) e = absurd (not_dominated j n bt d (inl (ap is_taken_state e)))
       only_pending j n bt k d Done e = absurd (not_dominated j n bt d (inr (e, k)))
 
-      gone_weaker : (j : ℕ) (n : NodeOf L) (number : ℕ) → slice_get nodes j ≡ Some n → IsTrue (is_kept n) → IsTrue (a.dominates l n.label) → Weaker (record n { dropped_by = Some number; state = Done }) n
+      gone_weaker : (j : ℕ) (n : NodeOf L) (number : ℕ) → slice_get nodes j ≡ Some n → IsTrue (is_kept n) → IsTrue (a.dominates l n.label)
+          → Weaker (record n { dropped_by = Some number; state = Done }) n
       gone_weaker j n number bt k d = record {
         label = refl;
         pending = λ p. absurd (cc);
@@ -282,11 +289,14 @@ module _ {L : Type 0} (a : Algebra L) (t : Setting) where
           gone_was (inl h) = absurd (cc)
           gone_was (inr h) = absurd (let no : false ≡ true = h.1 in cc)
 
-          gone_kept : IsTrue (is_kept n) → (IsTrue (is_node_pending (record n { dropped_by = Some number; state = Done })) ⊎ IsTrue (is_taken (record n { dropped_by = Some number; state = Done }))) → IsTrue (is_kept (record n { dropped_by = Some number; state = Done }))
+          gone_kept : IsTrue (is_kept n)
+              → (IsTrue (is_node_pending (record n { dropped_by = Some number; state = Done })) ⊎ IsTrue (is_taken (record n { dropped_by = Some number; state = Done })))
+              → IsTrue (is_kept (record n { dropped_by = Some number; state = Done }))
           gone_kept h (inl p) = absurd (let no : false ≡ true = p in cc)
           gone_kept h (inr p) = absurd (let no : false ≡ true = p in cc)
 
-      drop_weaker : (j : ℕ) (n : NodeOf L) (number : ℕ) (b c : Bool) → slice_get nodes j ≡ Some n → is_kept n ≡ b → a.dominates l n.label ≡ c → Weaker (cond (b && c) (record n { dropped_by = Some number; state = Done }) n) n
+      drop_weaker : (j : ℕ) (n : NodeOf L) (number : ℕ) (b c : Bool) → slice_get nodes j ≡ Some n → is_kept n ≡ b → a.dominates l n.label ≡ c
+          → Weaker (cond (b && c) (record n { dropped_by = Some number; state = Done }) n) n
       drop_weaker j n number true true bt p q = gone_weaker j n number bt p q
       drop_weaker j n number true false bt p q = same_weaker n
       drop_weaker j n number false c bt p q = same_weaker n
@@ -302,7 +312,8 @@ module _ {L : Type 0} (a : Algebra L) (t : Setting) where
     pub extended_later : (laws : Laws a) (n : NodeOf L) (k : ℕ) → IsWalkLabel a t n.label → k < out_degree t.graph (a.vertex n.label) → offset a t n + separation t ≤ a.offset (extended a t n.label k)
     extended_later laws n k walk lt =
         let e = edge_of t.graph (a.vertex n.label) k in
-        let within : a.vertex n.label < length t.graph.vertices = subst (λ (x : ℕ). x < length t.graph.vertices) (sym (walk_vertex a laws t walk.0 walk.1 n.label walk.2)) (walk_within a laws t sound walk.0 walk.1 n.label walk.2) in
+        let within : a.vertex n.label < length t.graph.vertices = subst (λ (x : ℕ). x < length t.graph.vertices) (sym (walk_vertex a laws t walk.0 walk.1 n.label walk.2))
+            (walk_within a laws t sound walk.0 walk.1 n.label walk.2) in
         let le : separation t ≤ e.sep = separation_le t sound (a.vertex n.label) k within lt in
         let is : a.offset (extended a t n.label k) ≡ a.offset n.label + e.sep = laws.extended_offset n.label e.sep e.to (vertex_of t.graph e.to).wcet in
         omega (arith, le, is)
@@ -321,7 +332,8 @@ module _ {L : Type 0} (a : Algebra L) (t : Setting) where
       offered_order : (l : L) → offset a t n + separation t ≤ a.offset l → Order a t (offered a t s e id l).state.nodes
       offered_order l h = cond_order (in_range a t l) _ _ (compared_order l (first (dominating a t l) (changed id count_one s.nodes)) h) counted_order
 
-    offered_at_order : (laws : Laws a) (s : State L) (e : Entry) (w id k : ℕ) (m : NodeOf L) (o : Option (NodeOf L)) → slice_get s.nodes id ≡ o → Facts a t s.nodes → Order a t s.nodes → slice_get s.nodes id ≡ Some m → m.state ≡ TakenBy w → k < out_degree t.graph (a.vertex m.label) → Order a t (offered_at a t s e id k o).state.nodes
+    offered_at_order : (laws : Laws a) (s : State L) (e : Entry) (w id k : ℕ) (m : NodeOf L) (o : Option (NodeOf L)) → slice_get s.nodes id ≡ o → Facts a t s.nodes
+        → Order a t s.nodes → slice_get s.nodes id ≡ Some m → m.state ≡ TakenBy w → k < out_degree t.graph (a.vertex m.label) → Order a t (offered_at a t s e id k o).state.nodes
     offered_at_order laws s e w id k m None h facts order at held lt = order
     offered_at_order laws s e w id k m (Some n) h facts order at held lt =
         let same : m ≡ n = same_Some m n (sym at ∙ h) in
@@ -331,7 +343,8 @@ module _ {L : Type 0} (a : Algebra L) (t : Setting) where
 
     pub step_order : (laws : Laws a) (s : State L) (w : ℕ) (step : TableStep) → Facts a t s.nodes → Order a t s.nodes → CanStep a t s w step → Order a t (step_of a t s w step).state.nodes
     step_order laws s w Take facts order can = taken_order s w order (next a t s.nodes) (holder a t s.nodes) refl refl
-    step_order laws s w (Offer id k) facts order can = cond_order (is_full a t s) _ _ order (offered_at_order laws s (record { worker = w; step = Offer id k }) w id k can.0 (slice_get s.nodes id) refl facts order can.1.at can.1.held can.3)
+    step_order laws s w (Offer id k) facts order can = cond_order (is_full a t s) _ _ order
+        (offered_at_order laws s (record { worker = w; step = Offer id k }) w id k can.0 (slice_get s.nodes id) refl facts order can.1.at can.1.held can.3)
     step_order laws s w (Close id) facts order can =
         cond_order (is_full a t s) _ _ order
         (weaker_changed id (λ n. record n { state = Done }) s.nodes can.0 can.1.at (closed_weaker can.0 w can.1.held (order.taken_kept id can.0 can.1.at (taken_is can.0 w can.1.held))) order)

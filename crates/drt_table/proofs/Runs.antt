@@ -44,7 +44,8 @@ module _ {L : Type 0} (a : Algebra L) (t : Setting) where
   counts_cond s true x y e p q = p
   counts_cond s false x y e p q = q e
 
-  counts_logged : (s : State L) (e : Entry) (nodes : List (NodeOf L)) (r : TableReply) → Counts t s → length nodes ≤ length s.nodes + 1 → is_full a t s ≡ false → Counts t (logged a t s e nodes r).state
+  counts_logged : (s : State L) (e : Entry) (nodes : List (NodeOf L)) (r : TableReply) → Counts t s → length nodes ≤ length s.nodes + 1 → is_full a t s ≡ false
+      → Counts t (logged a t s e nodes r).state
   counts_logged s e nodes r c h f =
       let more : length (s.log ++ e ∷ []) ≡ length s.log + 1 = length-append s.log (e ∷ []) in
       let room : length s.log < t.budget = leb-false t.budget (length s.log) f in
@@ -52,7 +53,8 @@ module _ {L : Type 0} (a : Algebra L) (t : Setting) where
       record { few = omega arith; within = omega arith }
 
   counts_takes : (s : State L) (w k : ℕ) → Counts t s → is_full a t s ≡ false → Counts t (takes a t s w k).state
-  counts_takes s w k c f = counts_logged s (record { worker = w; step = Take }) (changed k (λ (n : NodeOf L). record n { state = TakenBy w }) s.nodes) (Taken k) c (let h : length (changed k (λ (n : NodeOf L). record n { state = TakenBy w }) s.nodes) ≡ length s.nodes = length-changed k _ s.nodes in omega arith) f
+  counts_takes s w k c f = counts_logged s (record { worker = w; step = Take }) (changed k (λ (n : NodeOf L). record n { state = TakenBy w }) s.nodes) (Taken k) c
+      (let h : length (changed k (λ (n : NodeOf L). record n { state = TakenBy w }) s.nodes) ≡ length s.nodes = length-changed k _ s.nodes in omega arith) f
 
   counts_either : (b : Bool) (x y : Outcome L) → Counts t x.state → Counts t y.state → Counts t (cond b x y).state
   counts_either true x y p q = p
@@ -68,13 +70,18 @@ module _ {L : Type 0} (a : Algebra L) (t : Setting) where
   length-added : (nodes : List (NodeOf L)) (id : ℕ) (l : L) → length (added a t nodes id l) ≡ length nodes + 1
   length-added nodes id l = length-append (map (drop_by a t l (length nodes)) nodes) (fresh l (Some id) ∷ []) ∙ ap (λ k. k + 1) (length-map nodes (drop_by a t l (length nodes)))
 
-  counts_compared : (s : State L) (e : Entry) (nodes : List (NodeOf L)) (id : ℕ) (l : L) (o : Option ℕ) → length nodes ≡ length s.nodes → Counts t s → is_full a t s ≡ false → Counts t (compared a t s e nodes id l o).state
-  counts_compared s e nodes id l None h c f = counts_logged s e (added a t nodes id l) (Added (length nodes)) c (let g : length (added a t nodes id l) ≡ length nodes + 1 = length-added nodes id l in omega arith) f
+  counts_compared : (s : State L) (e : Entry) (nodes : List (NodeOf L)) (id : ℕ) (l : L) (o : Option ℕ) → length nodes ≡ length s.nodes → Counts t s
+      → is_full a t s ≡ false → Counts t (compared a t s e nodes id l o).state
+  counts_compared s e nodes id l None h c f = counts_logged s e (added a t nodes id l) (Added (length nodes)) c
+      (let g : length (added a t nodes id l) ≡ length nodes + 1 = length-added nodes id l in omega arith) f
   counts_compared s e nodes id l (Some k) h c f = counts_logged s e nodes (Dominated k) c (omega arith) f
 
-  counts_ranged : (s : State L) (e : Entry) (id : ℕ) (l : L) (b : Bool) → Counts t s → is_full a t s ≡ false → Counts t (cond b (compared a t s e (counted a t id s.nodes) id l (first (dominating a t l) (counted a t id s.nodes))) (logged a t s e (counted a t id s.nodes) OutOfRange)).state
-  counts_ranged s e id l true c f = counts_compared s e (counted a t id s.nodes) id l (first (dominating a t l) (counted a t id s.nodes)) (length-changed id (λ (n : NodeOf L). record n { offered = n.offered + 1 }) s.nodes) c f
-  counts_ranged s e id l false c f = counts_logged s e (counted a t id s.nodes) OutOfRange c (let h : length (counted a t id s.nodes) ≡ length s.nodes = length-changed id (λ (n : NodeOf L). record n { offered = n.offered + 1 }) s.nodes in omega arith) f
+  counts_ranged : (s : State L) (e : Entry) (id : ℕ) (l : L) (b : Bool) → Counts t s → is_full a t s ≡ false
+      → Counts t (cond b (compared a t s e (counted a t id s.nodes) id l (first (dominating a t l) (counted a t id s.nodes))) (logged a t s e (counted a t id s.nodes) OutOfRange)).state
+  counts_ranged s e id l true c f = counts_compared s e (counted a t id s.nodes) id l (first (dominating a t l) (counted a t id s.nodes))
+      (length-changed id (λ (n : NodeOf L). record n { offered = n.offered + 1 }) s.nodes) c f
+  counts_ranged s e id l false c f = counts_logged s e (counted a t id s.nodes) OutOfRange c
+      (let h : length (counted a t id s.nodes) ≡ length s.nodes = length-changed id (λ (n : NodeOf L). record n { offered = n.offered + 1 }) s.nodes in omega arith) f
 
   counts_offered_at : (s : State L) (e : Entry) (id k : ℕ) (o : Option (NodeOf L)) → Counts t s → is_full a t s ≡ false → Counts t (offered_at a t s e id k o).state
   counts_offered_at s e id k None c f = c
@@ -83,7 +90,9 @@ module _ {L : Type 0} (a : Algebra L) (t : Setting) where
   pub step_counts : (s : State L) (w : ℕ) (step : TableStep) → Counts t s → Counts t (step_of a t s w step).state
   step_counts s w Take c = counts_taken s w (next a t s.nodes) (holder a t s.nodes) c
   step_counts s w (Offer id k) c = counts_cond s (is_full a t s) _ _ refl c (λ f. counts_offered_at s (record { worker = w; step = Offer id k }) id k (slice_get s.nodes id) c f)
-  step_counts s w (Close id) c = counts_cond s (is_full a t s) _ _ refl c (λ f. counts_logged s (record { worker = w; step = Close id }) (changed id (λ (n : NodeOf L). record n { state = Done }) s.nodes) Closed c (let h : length (changed id (λ (n : NodeOf L). record n { state = Done }) s.nodes) ≡ length s.nodes = length-changed id _ s.nodes in omega arith) f)
+  step_counts s w (Close id) c = counts_cond s (is_full a t s) _ _ refl c
+      (λ f. counts_logged s (record { worker = w; step = Close id }) (changed id (λ (n : NodeOf L). record n { state = Done }) s.nodes) Closed c
+      (let h : length (changed id (λ (n : NodeOf L). record n { state = Done }) s.nodes) ≡ length s.nodes = length-changed id _ s.nodes in omega arith) f)
 
   pub run_counts : (es : List Entry) → Counts t (replay a t es)
   run_counts es = replay_keeps (after a t) (Counts t) (λ s e c. step_counts s e.worker e.step c) es (opening_state a t)

@@ -126,7 +126,8 @@ module _ {L : Type 0} (a : Algebra L) (laws : Laws a) (l : L) (nodes : List (Hel
           min_cases : (m n : ℕ) → ((min m n ≡ m) × (m ≤ n)) ⊎ ((min m n ≡ n) × (n ≤ m))
           min_cases m n = grind arith
 
-          least_is : (b : ℕ) (c : Option ℕ) → ((b : ℕ) → c ≡ Some b → (h : Held L) × (slice_get nodes b ≡ Some h) × (dominates_held a l h ≡ true)) → smaller c (Some i) ≡ Some b → (h : Held L) × (slice_get nodes b ≡ Some h) × (dominates_held a l h ≡ true)
+          least_is : (b : ℕ) (c : Option ℕ) → ((b : ℕ) → c ≡ Some b → (h : Held L) × (slice_get nodes b ≡ Some h) × (dominates_held a l h ≡ true))
+              → smaller c (Some i) ≡ Some b → (h : Held L) × (slice_get nodes b ≡ Some h) × (dominates_held a l h ≡ true)
           least_is b None ok e = (x, ap (λ j. slice_get nodes j) (sym (same_Some i b e)) ∙ at, d)
           least_is b (Some m) ok e = by_min (min_cases m i)
             where
@@ -146,7 +147,8 @@ module _ {L : Type 0} (a : Algebra L) (laws : Laws a) (l : L) (nodes : List (Hel
           by_place k h (inl e) = inr (upto_new least k e)
           by_place k h (inr more) = inl more
 
-          by_case : (k : ℕ) (h : Held L) → slice_get nodes k ≡ Some h → dominates_held a l h ≡ true → IsAhead a nodes (Some i) k h ⊎ IsUpto least k → IsAhead a nodes o k h ⊎ IsUpto (smaller least (Some i)) k
+          by_case : (k : ℕ) (h : Held L) → slice_get nodes k ≡ Some h → dominates_held a l h ≡ true → IsAhead a nodes (Some i) k h ⊎ IsUpto least k
+              → IsAhead a nodes o k h ⊎ IsUpto (smaller least (Some i)) k
           by_case k h at_h t (inl ahead) = by_place k h (past k h (above_kept k h at_h t) ahead)
           by_case k h at_h t (inr upto) = inr (upto_more least k upto)
 

@@ -42,7 +42,8 @@ row_at_most row k e at = by_least (least_of (λ (x : Edge). true) (λ x. x.sep) 
 
 shortest_at_most : (rows : List (List Edge)) (v k : ℕ) (row : List Edge) (e : Edge) → slice_get rows v ≡ Some row → slice_get row k ≡ Some e → AtMost (shortest rows) e.sep
 shortest_at_most [] v k row e h at = absurd (none-some row h)
-shortest_at_most (r ∷ rows) zero k row e h at = smaller_left (least_of (λ (x : Edge). true) (λ x. x.sep) r) (shortest rows) e.sep (subst (λ (z : List Edge). AtMost (least_of (λ (x : Edge). true) (λ x. x.sep) z) e.sep) (sym (same_Some r row h)) (row_at_most row k e at))
+shortest_at_most (r ∷ rows) zero k row e h at = smaller_left (least_of (λ (x : Edge). true) (λ x. x.sep) r) (shortest rows) e.sep
+    (subst (λ (z : List Edge). AtMost (least_of (λ (x : Edge). true) (λ x. x.sep) z) e.sep) (sym (same_Some r row h)) (row_at_most row k e at))
 shortest_at_most (r ∷ rows) (suc v) k row e h at = smaller_right (least_of (λ (x : Edge). true) (λ x. x.sep) r) (shortest rows) e.sep (shortest_at_most rows v k row e h at)
 
 -- an edge that has the separation

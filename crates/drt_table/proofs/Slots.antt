@@ -44,14 +44,16 @@ module _ {L : Type 0} (m : ℕ) where
       omega arith
 
   -- fewer where one kept node has fewer
-  sum_fewer : (xs : List (NodeOf L)) → ((i : ℕ) (n : NodeOf L) → slice_get xs i ≡ Some n → node_entries n ≤ m) → (k : ℕ) (y : NodeOf L) → slice_get xs k ≡ Some y → IsTrue (is_kept y) → node_entries y < m → total node_entries xs < kept_count xs * m
+  sum_fewer : (xs : List (NodeOf L)) → ((i : ℕ) (n : NodeOf L) → slice_get xs i ≡ Some n → node_entries n ≤ m) → (k : ℕ) (y : NodeOf L) → slice_get xs k ≡ Some y
+      → IsTrue (is_kept y) → node_entries y < m → total node_entries xs < kept_count xs * m
   sum_fewer [] h k y at kept less = absurd (none-some y at)
   sum_fewer (x ∷ xs) h zero y at kept less =
       let same : x ≡ y = same_Some x y at in
       let one : one_if (is_kept x) ≡ 1 = ap (λ b. one_if b) (ap is_kept same ∙ kept) in
       let here : node_entries x < m = subst (λ (z : NodeOf L). node_entries z < m) (sym same) less in
       let rest : total node_entries xs ≤ kept_count xs * m = sum_few xs (λ i n g. h (suc i) n g) in
-      let product : (one_if (is_kept x) + kept_count xs) * m ≡ m + kept_count xs * m = ap (λ (j : ℕ). (j + kept_count xs) * m) one ∙ (let p : (1 + kept_count xs) * m ≡ m + kept_count xs * m = grind arith in p) in
+      let product : (one_if (is_kept x) + kept_count xs) * m ≡ m + kept_count xs * m = ap (λ (j : ℕ). (j + kept_count xs) * m) one
+          ∙ (let p : (1 + kept_count xs) * m ≡ m + kept_count xs * m = grind arith in p) in
       omega arith
   sum_fewer (x ∷ xs) h (suc k) y at kept less =
       let here : node_entries x ≤ one_if (is_kept x) * m = entries_at x (is_kept x) refl (h 0 x refl) in
@@ -77,7 +79,8 @@ module _ {L : Type 0} (a : Algebra L) (laws : Laws a) (t : Setting) (takes_bound
   open_by nodes None None order e f h = absurd (cc)
   open_by nodes (Some k) o order e f h =
       let x : Earliest is_node_pending (offset a t) nodes k = found_earliest is_node_pending (offset a t) nodes k e in
-      record { number = k; node = x.item; at = x.at; kept = order.pending_kept k x.item x.at x.passes; few = let s : state_entries x.item.state ≡ 0 = ap state_entries (pending_state x.item x.passes) in omega arith }
+      record { number = k; node = x.item; at = x.at; kept = order.pending_kept k x.item x.at x.passes; few = let s : state_entries x.item.state ≡ 0 = ap state_entries
+          (pending_state x.item x.passes) in omega arith }
   open_by nodes None (Some k) order e f h =
       let x : Earliest is_taken (offset a t) nodes k = found_earliest is_taken (offset a t) nodes k f in
       record { number = k; node = x.item; at = x.at; kept = order.taken_kept k x.item x.at x.passes; few = taken_few x.item.state x.passes }
@@ -90,7 +93,8 @@ module _ {L : Type 0} (a : Algebra L) (laws : Laws a) (t : Setting) (takes_bound
     offers i n at =
         let w = facts.walks i n at in
         let few : n.offered ≤ out_degree t.graph (a.vertex n.label) = facts.offered i n at in
-        let within : a.vertex n.label < length t.graph.vertices = subst (λ (x : ℕ). x < length t.graph.vertices) (sym (walk_vertex a laws t w.0 w.1 n.label w.2)) (walk_within a laws t sound w.0 w.1 n.label w.2) in
+        let within : a.vertex n.label < length t.graph.vertices = subst (λ (x : ℕ). x < length t.graph.vertices) (sym (walk_vertex a laws t w.0 w.1 n.label w.2))
+            (walk_within a laws t sound w.0 w.1 n.label w.2) in
         let edges : out_degree t.graph (a.vertex n.label) ≤ g = degree (a.vertex n.label) within in
         omega arith
 
@@ -108,7 +112,8 @@ module _ {L : Type 0} (a : Algebra L) (laws : Laws a) (t : Setting) (takes_bound
         let f = offers o.number o.node o.at in
         let s : state_entries o.node.state ≤ 1 = o.few in
         let entries : length (replay a t es).log ≡ total node_entries (replay a t es).nodes = (run_bounded a laws t takes_bound sound es run).entries in
-        let fewer : total node_entries (replay a t es).nodes < kept_count (replay a t es).nodes * (g + 2) = sum_fewer (g + 2) (replay a t es).nodes each o.number o.node o.at o.kept (omega (arith, k, f, s)) in
+        let fewer : total node_entries (replay a t es).nodes < kept_count (replay a t es).nodes * (g + 2) = sum_fewer (g + 2) (replay a t es).nodes each o.number o.node
+            o.at o.kept (omega (arith, k, f, s)) in
         omega arith
 
     pub run_short : IsShort a t g (replay a t es)
@@ -174,7 +179,9 @@ module _ {L : Type 0} (a : Algebra L) (laws : Laws a) (t : Setting) (takes_bound
     none_passes p [] h = refl
     none_passes p (x ∷ xs) h = let e : one_if (p x) ≡ 0 = ap (λ c. one_if c) (h 0 x refl) in let r = none_passes p xs (λ i n at. h (suc i) n at) in omega (arith, e, r)
 
-    not_both : (p : NodeOf L → Bool) (x : NodeOf L) (xs : List (NodeOf L)) → ((i j : ℕ) (m n : NodeOf L) → slice_get (x ∷ xs) i ≡ Some m → slice_get (x ∷ xs) j ≡ Some n → p m ≡ true → p n ≡ true → i ≡ j) → p x ≡ true → (i : ℕ) (n : NodeOf L) → slice_get xs i ≡ Some n → (b : Bool) → p n ≡ b → p n ≡ false
+    not_both : (p : NodeOf L → Bool) (x : NodeOf L) (xs : List (NodeOf L))
+        → ((i j : ℕ) (m n : NodeOf L) → slice_get (x ∷ xs) i ≡ Some m → slice_get (x ∷ xs) j ≡ Some n → p m ≡ true → p n ≡ true → i ≡ j) → p x ≡ true
+        → (i : ℕ) (n : NodeOf L) → slice_get xs i ≡ Some n → (b : Bool) → p n ≡ b → p n ≡ false
     not_both p x xs h e i n at false q = q
     not_both p x xs h e i n at true q = absurd (let z : 0 ≡ suc i = h 0 (suc i) x n refl at e q in omega arith)
 
@@ -191,7 +198,8 @@ module _ {L : Type 0} (a : Algebra L) (laws : Laws a) (t : Setting) (takes_bound
             let none : one_if (p x) ≡ 0 = ap (λ c. one_if c) e in
             omega (arith, rest, none)
 
-    few_below : (m : ℕ) (xs : List (NodeOf L)) → ((k i j : ℕ) (x y : NodeOf L) → slice_get xs i ≡ Some x → slice_get xs j ≡ Some y → exactly k x ≡ true → exactly k y ≡ true → i ≡ j) → number_of (below m) xs ≤ m
+    few_below : (m : ℕ) (xs : List (NodeOf L))
+        → ((k i j : ℕ) (x y : NodeOf L) → slice_get xs i ≡ Some x → slice_get xs j ≡ Some y → exactly k x ≡ true → exactly k y ≡ true → i ≡ j) → number_of (below m) xs ≤ m
     few_below zero xs h = let e = below_none xs in omega (arith, e)
     few_below (suc m) xs h =
         let rest : number_of (below m) xs ≤ m = few_below m xs h in
@@ -221,14 +229,16 @@ module _ {L : Type 0} (a : Algebra L) (laws : Laws a) (t : Setting) (takes_bound
         let all : number_of (below many) nodes ≡ kept_count nodes = all_below many nodes (λ i n at. slots.within n.label (facts.walks i n at)) in
         omega (arith, few, all)
       where
-        by_order : (facts : Facts a t (replay a t es).nodes) (i j : ℕ) (x y : NodeOf L) → KeptAt a t (replay a t es).nodes i x → KeptAt a t (replay a t es).nodes j y → IsTrue (a.dominates x.label y.label) ⊎ IsTrue (a.dominates y.label x.label) → i ≡ j
+        by_order : (facts : Facts a t (replay a t es).nodes) (i j : ℕ) (x y : NodeOf L) → KeptAt a t (replay a t es).nodes i x → KeptAt a t (replay a t es).nodes j y
+            → IsTrue (a.dominates x.label y.label) ⊎ IsTrue (a.dominates y.label x.label) → i ≡ j
         by_order facts i j x y kx ky (inl d) = facts.alone i j x y kx ky d
         by_order facts i j x y kx ky (inr d) = sym (facts.alone j i y x ky kx d)
 
         number_of_slot : (m n : ℕ) → (m == n) ≡ true → m ≡ n
         number_of_slot m n e = grind (arith, nat_tests)
 
-        same_place : (facts : Facts a t (replay a t es).nodes) (k i j : ℕ) (x y : NodeOf L) → slice_get (replay a t es).nodes i ≡ Some x → slice_get (replay a t es).nodes j ≡ Some y → exactly k x ≡ true → exactly k y ≡ true → i ≡ j
+        same_place : (facts : Facts a t (replay a t es).nodes) (k i j : ℕ) (x y : NodeOf L) → slice_get (replay a t es).nodes i ≡ Some x
+            → slice_get (replay a t es).nodes j ≡ Some y → exactly k x ≡ true → exactly k y ≡ true → i ≡ j
         same_place facts k i j x y hx hy p q =
             let sx : slot x.label ≡ k = number_of_slot (slot x.label) k (and_right (is_kept x) (slot x.label == k) p) in
             let sy : slot y.label ≡ k = number_of_slot (slot y.label) k (and_right (is_kept y) (slot y.label == k) q) in

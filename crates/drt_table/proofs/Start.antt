@@ -15,19 +15,23 @@ use Rattle.drt_table.specs.Node.{NodeOf, Held, is_kept, fresh}
 use Rattle.drt_table.specs.Machine.{Setting, IsRun, opening_label, in_range, opening_nodes, opening_state, replay}
 
 module _ {L : Type 0} (a : Algebra L) (laws : Laws a) (t : Setting) where
-  opening_more : (v n : ℕ) → v < n → opening_nodes a t v (n - v) ≡ cond (in_range a t (opening_label a t v)) (fresh (opening_label a t v) None ∷ opening_nodes a t (v + 1) (n - (v + 1))) (opening_nodes a t (v + 1) (n - (v + 1)))
+  opening_more : (v n : ℕ) → v < n
+      → opening_nodes a t v (n - v) ≡ cond (in_range a t (opening_label a t v)) (fresh (opening_label a t v) None ∷ opening_nodes a t (v + 1) (n - (v + 1)))
+      (opening_nodes a t (v + 1) (n - (v + 1)))
   opening_more v n lt = let e : n - v ≡ suc (n - (v + 1)) = omega arith in ap (λ k. opening_nodes a t v k) e
 
   range_is : (v : ℕ) → in_range a t (opening_label a t v) ≡ a.in_range (opening_label a t v) (vertex_of t.graph v).deadline t.bound
   range_is v = ap (λ u. a.in_range (opening_label a t v) (vertex_of t.graph u).deadline t.bound) (laws.opening_vertex v (vertex_of t.graph v).wcet t.bound)
 
   module _ (nodes : List (Held L)) (all : List (NodeOf L)) (v n : ℕ) (l : L) (lt : v < n) (so_far : map (λ (h : Held L). h.node) nodes ++ opening_nodes a t v (n - v) ≡ all) where
-    more_at : (b : Bool) → in_range a t (opening_label a t v) ≡ b → map (λ (h : Held L). h.node) nodes ++ cond b (fresh (opening_label a t v) None ∷ opening_nodes a t (v + 1) (n - (v + 1))) (opening_nodes a t (v + 1) (n - (v + 1))) ≡ all
+    more_at : (b : Bool) → in_range a t (opening_label a t v) ≡ b
+        → map (λ (h : Held L). h.node) nodes ++ cond b (fresh (opening_label a t v) None ∷ opening_nodes a t (v + 1) (n - (v + 1))) (opening_nodes a t (v + 1) (n - (v + 1))) ≡ all
     more_at b e =
         ap (λ x. map (λ (h : Held L). h.node) nodes ++ cond x (fresh (opening_label a t v) None ∷ opening_nodes a t (v + 1) (n - (v + 1))) (opening_nodes a t (v + 1) (n - (v + 1)))) (sym e)
         ∙ (ap (λ xs. map (λ (h : Held L). h.node) nodes ++ xs) (sym (opening_more v n lt)) ∙ so_far)
 
-    opening_in : l ≡ opening_label a t v → (new : List (Held L)) → in_range a t (opening_label a t v) ≡ true → new ≡ nodes ++ record { node = fresh l None; spare = true } ∷ [] → map (λ (h : Held L). h.node) new ++ opening_nodes a t (v + 1) (n - (v + 1)) ≡ all
+    opening_in : l ≡ opening_label a t v → (new : List (Held L)) → in_range a t (opening_label a t v) ≡ true
+        → new ≡ nodes ++ record { node = fresh l None; spare = true } ∷ [] → map (λ (h : Held L). h.node) new ++ opening_nodes a t (v + 1) (n - (v + 1)) ≡ all
     opening_in l_is new r e =
         ap (λ xs. map (λ (h : Held L). h.node) xs ++ opening_nodes a t (v + 1) (n - (v + 1))) e
         ∙ (ap (λ xs. xs ++ opening_nodes a t (v + 1) (n - (v + 1))) (map-append (λ (h : Held L). h.node) nodes (record { node = fresh l None; spare = true } ∷ []))
@@ -35,7 +39,8 @@ module _ {L : Type 0} (a : Algebra L) (laws : Laws a) (t : Setting) where
         ∙ (ap (λ x. map (λ (h : Held L). h.node) nodes ++ (fresh x None ∷ opening_nodes a t (v + 1) (n - (v + 1)))) l_is
         ∙ more_at true r)))
 
-spares_more : {L : Type 0} (nodes new : List (Held L)) (h : Held L) → h.spare ≡ true → new ≡ nodes ++ h ∷ [] → map (λ (x : Held L). x.spare) nodes ≡ replicate (length nodes) true → map (λ (x : Held L). x.spare) new ≡ replicate (length new) true
+spares_more : {L : Type 0} (nodes new : List (Held L)) (h : Held L) → h.spare ≡ true → new ≡ nodes ++ h ∷ []
+    → map (λ (x : Held L). x.spare) nodes ≡ replicate (length nodes) true → map (λ (x : Held L). x.spare) new ≡ replicate (length new) true
 spares_more {L} nodes new h s e so_far =
     ap (λ xs. map (λ (x : Held L). x.spare) xs) e
     ∙ (map-append (λ (x : Held L). x.spare) nodes (h ∷ [])
@@ -63,10 +68,12 @@ module _ {L : Type 0} (a : Algebra L) where
       let lt : a.vertex h.node.label < v = low k h at in
       not_here (is_kept h.node) (a.vertex h.node.label) u (omega arith)
 
-  low_in : (nodes new : List (Held L)) (v : ℕ) (l : L) → AllOf (λ (h : Held L). a.vertex h.node.label < v) nodes → new ≡ nodes ++ record { node = fresh l None; spare = true } ∷ [] → a.vertex l ≡ v → AllOf (λ (h : Held L). a.vertex h.node.label < v + 1) new
+  low_in : (nodes new : List (Held L)) (v : ℕ) (l : L) → AllOf (λ (h : Held L). a.vertex h.node.label < v) nodes
+      → new ≡ nodes ++ record { node = fresh l None; spare = true } ∷ [] → a.vertex l ≡ v → AllOf (λ (h : Held L). a.vertex h.node.label < v + 1) new
   low_in nodes new v l low e here =
       subst (λ (xs : List (Held L)). AllOf (λ (h : Held L). a.vertex h.node.label < v + 1) xs) (sym e)
-      (all_push (λ (h : Held L). a.vertex h.node.label < v + 1) nodes (record { node = fresh l None; spare = true }) (λ k h at. let lt : a.vertex h.node.label < v = low k h at in omega arith) (omega arith))
+      (all_push (λ (h : Held L). a.vertex h.node.label < v + 1) nodes (record { node = fresh l None; spare = true })
+          (λ k h at. let lt : a.vertex h.node.label < v = low k h at in omega arith) (omega arith))
 
   low_out : (nodes : List (Held L)) (v : ℕ) → AllOf (λ (h : Held L). a.vertex h.node.label < v) nodes → AllOf (λ (h : Held L). a.vertex h.node.label < v + 1) nodes
   low_out nodes v low k h at = let lt : a.vertex h.node.label < v = low k h at in omega arith

@@ -35,7 +35,8 @@ change-push f g e zero (x ∷ xs) z lt = ap (λ y. y ∷ (map g xs ++ z ∷ []))
 change-push f g e (suc k) (x ∷ xs) z lt = ap (λ ys. g x ∷ ys) (change-push f g e k xs z (omega arith))
 
 module _ {L : Type 0} (a : Algebra L) (laws : Laws a) (t : Setting) where
-  commute_at : (l : L) (number : ℕ) (n : NodeOf L) (b : Bool) → cond b (record (count_one n) { dropped_by = Some number; state = Done }) (count_one n) ≡ count_one (cond b (record n { dropped_by = Some number; state = Done }) n)
+  commute_at : (l : L) (number : ℕ) (n : NodeOf L) (b : Bool) → cond b (record (count_one n) { dropped_by = Some number; state = Done }) (count_one n) ≡ count_one
+      (cond b (record n { dropped_by = Some number; state = Done }) n)
   commute_at l number n true = refl
   commute_at l number n false = refl
 
@@ -89,7 +90,8 @@ module _ {L : Type 0} (a : Algebra L) (laws : Laws a) (t : Setting) where
     same_node : (m : NodeOf L) → slice_get nodes id ≡ Some m → n ≡ m
     same_node m h = same_Some n m (sym at ∙ h)
 
-    covered_next : (m : NodeOf L) (e : ℕ) → (IsTrue (in_range a t (extended a t n.label n.offered)) → IsCovered a t nodes (extended a t n.label n.offered)) → slice_get nodes id ≡ Some m → e < m.offered + 1 → IsTrue (in_range a t (extended a t m.label e)) → (e < m.offered) ⊎ (e ≡ m.offered) → IsCovered a t nodes (extended a t m.label e)
+    covered_next : (m : NodeOf L) (e : ℕ) → (IsTrue (in_range a t (extended a t n.label n.offered)) → IsCovered a t nodes (extended a t n.label n.offered))
+        → slice_get nodes id ≡ Some m → e < m.offered + 1 → IsTrue (in_range a t (extended a t m.label e)) → (e < m.offered) ⊎ (e ≡ m.offered) → IsCovered a t nodes (extended a t m.label e)
     covered_next m e next h lt r (inl less) = facts.covered id m e h less r
     covered_next m e next h lt r (inr eq) =
         let label_is : extended a t n.label n.offered ≡ extended a t m.label e = ap (λ (z : NodeOf L). extended a t z.label z.offered) (same_node m h) ∙ ap (λ i. extended a t m.label i) (sym eq) in
@@ -116,7 +118,8 @@ module _ {L : Type 0} (a : Algebra L) (laws : Laws a) (t : Setting) (nodes : Lis
     no = λ i m h kept dom.
         let b : After id count_one nodes i m = after_change id count_one nodes i m h in
         let s : SameShape b.new m = shape_of count_one count_keeps i id b.new m b.is in
-        true_not_false (both (is_kept b.new) (a.dominates b.new.label l) (ap is_none s.dropped_by ∙ kept) (ap (λ x. a.dominates x l) s.label ∙ dom)) (none_found (dominating a t l) (changed id count_one nodes) none i b.new b.at);
+        true_not_false (both (is_kept b.new) (a.dominates b.new.label l) (ap is_none s.dropped_by ∙ kept) (ap (λ x. a.dominates x l) s.label ∙ dom))
+            (none_found (dominating a t l) (changed id count_one nodes) none i b.new b.at);
   }
 
   covered_by : (k : ℕ) → first (dominating a t l) (changed id count_one nodes) ≡ Some k → IsCovered a t nodes l
@@ -131,7 +134,8 @@ module _ {L : Type 0} (a : Algebra L) (laws : Laws a) (t : Setting) (nodes : Lis
         dominates = ap (λ x. a.dominates x l) (sym s.label) ∙ and_right (is_kept f.item) (a.dominates f.item.label l) f.passes;
       }
 
-  offer_added : slice_get nodes id ≡ Some n → n.offered < out_degree t.graph (a.vertex n.label) → Facts a t nodes → l ≡ extended a t n.label n.offered → IsWalkLabel a t l → IsUndominated a laws t nodes id l → Facts a t (added a t (changed id count_one nodes) id l)
+  offer_added : slice_get nodes id ≡ Some n → n.offered < out_degree t.graph (a.vertex n.label) → Facts a t nodes → l ≡ extended a t n.label n.offered → IsWalkLabel a t l
+      → IsUndominated a laws t nodes id l → Facts a t (added a t (changed id count_one nodes) id l)
   offer_added at more facts l_is walk none =
       let m : NodeOf L = drop_by a t l (length nodes) n in
       let at_m : slice_get (added a t nodes id l) id ≡ Some m = after_push (drop_by a t l (length nodes)) nodes (fresh l (Some id)) id n at in
@@ -145,12 +149,19 @@ module _ {L : Type 0} (a : Algebra L) (laws : Laws a) (t : Setting) (nodes : Lis
       (count_offer a laws t (added a t nodes id l) id m at_m more_m now
       (λ r. subst (λ (x : L). IsCovered a t (added a t nodes id l) x) same_label (covers_itself a laws t nodes id l)))
 
-module _ {L : Type 0} (a : Algebra L) (laws : Laws a) (t : Setting) (s : State L) (e : Entry) (id : ℕ) (n : NodeOf L) (at : slice_get s.nodes id ≡ Some n) (more : n.offered < out_degree t.graph (a.vertex n.label)) (facts : Facts a t s.nodes) where
-  compared_keeps : (o : Option ℕ) → IsTrue (in_range a t (extended a t n.label n.offered)) → first (dominating a t (extended a t n.label n.offered)) (changed id count_one s.nodes) ≡ o → Facts a t (compared a t s e (changed id count_one s.nodes) id (extended a t n.label n.offered) o).state.nodes
-  compared_keeps None r h = offer_added a laws t s.nodes id n (extended a t n.label n.offered) at more facts refl (walk_more a laws t n.label n.offered (facts.walks id n at) more r) (undominated a laws t s.nodes id n (extended a t n.label n.offered) h)
+module _ {L : Type 0} (a : Algebra L) (laws : Laws a) (t : Setting) (s : State L) (e : Entry) (id : ℕ) (n : NodeOf L) (at : slice_get s.nodes id ≡ Some n)
+    (more : n.offered < out_degree t.graph (a.vertex n.label)) (facts : Facts a t s.nodes) where
+  compared_keeps : (o : Option ℕ) → IsTrue (in_range a t (extended a t n.label n.offered))
+      → first (dominating a t (extended a t n.label n.offered)) (changed id count_one s.nodes) ≡ o
+      → Facts a t (compared a t s e (changed id count_one s.nodes) id (extended a t n.label n.offered) o).state.nodes
+  compared_keeps None r h = offer_added a laws t s.nodes id n (extended a t n.label n.offered) at more facts refl
+      (walk_more a laws t n.label n.offered (facts.walks id n at) more r) (undominated a laws t s.nodes id n (extended a t n.label n.offered) h)
   compared_keeps (Some k) r h = count_offer a laws t s.nodes id n at more facts (λ _. covered_by a laws t s.nodes id n (extended a t n.label n.offered) k h)
 
-  ranged_keeps : (b : Bool) → in_range a t (extended a t n.label n.offered) ≡ b → Facts a t (cond b (compared a t s e (counted a t id s.nodes) id (extended a t n.label n.offered) (first (dominating a t (extended a t n.label n.offered)) (counted a t id s.nodes))) (logged a t s e (counted a t id s.nodes) OutOfRange)).state.nodes
+  ranged_keeps : (b : Bool) → in_range a t (extended a t n.label n.offered) ≡ b
+      → Facts a t (cond b
+      (compared a t s e (counted a t id s.nodes) id (extended a t n.label n.offered) (first (dominating a t (extended a t n.label n.offered)) (counted a t id s.nodes)))
+      (logged a t s e (counted a t id s.nodes) OutOfRange)).state.nodes
   ranged_keeps true r = compared_keeps (first (dominating a t (extended a t n.label n.offered)) (changed id count_one s.nodes)) r refl
   ranged_keeps false r = count_offer a laws t s.nodes id n at more facts (λ h. absurd (true_not_false h r))
 
@@ -158,15 +169,18 @@ module _ {L : Type 0} (a : Algebra L) (laws : Laws a) (t : Setting) (s : State L
   offered_keeps = ranged_keeps (in_range a t (extended a t n.label n.offered)) refl
 
 module _ {L : Type 0} (a : Algebra L) (laws : Laws a) (t : Setting) where
-  offered_at_keeps : (s : State L) (e : Entry) (id k : ℕ) (m : NodeOf L) (o : Option (NodeOf L)) → slice_get s.nodes id ≡ o → Facts a t s.nodes → slice_get s.nodes id ≡ Some m → k ≡ m.offered → k < out_degree t.graph (a.vertex m.label) → Facts a t (offered_at a t s e id k o).state.nodes
+  offered_at_keeps : (s : State L) (e : Entry) (id k : ℕ) (m : NodeOf L) (o : Option (NodeOf L)) → slice_get s.nodes id ≡ o → Facts a t s.nodes
+      → slice_get s.nodes id ≡ Some m → k ≡ m.offered → k < out_degree t.graph (a.vertex m.label) → Facts a t (offered_at a t s e id k o).state.nodes
   offered_at_keeps s e id k m None h facts at k_is lt = facts
   offered_at_keeps s e id k m (Some n) h facts at k_is lt =
       let same : m ≡ n = same_Some m n (sym at ∙ h) in
       let is : n.offered ≡ k = sym (k_is ∙ ap (λ (x : NodeOf L). x.offered) same) in
-      let more : n.offered < out_degree t.graph (a.vertex n.label) = subst (λ (x : NodeOf L). n.offered < out_degree t.graph (a.vertex x.label)) same (subst (λ (i : ℕ). i < out_degree t.graph (a.vertex m.label)) (sym is) lt) in
+      let more : n.offered < out_degree t.graph (a.vertex n.label) = subst (λ (x : NodeOf L). n.offered < out_degree t.graph (a.vertex x.label)) same
+          (subst (λ (i : ℕ). i < out_degree t.graph (a.vertex m.label)) (sym is) lt) in
       subst (λ (i : ℕ). Facts a t (offered a t s e id (extended a t n.label i)).state.nodes) is (offered_keeps a laws t s e id n h more facts)
 
   pub step_keeps : (s : State L) (w : ℕ) (step : TableStep) → Facts a t s.nodes → CanStep a t s w step → Facts a t (step_of a t s w step).state.nodes
   step_keeps s w Take facts can = taken_keeps a laws t s w facts (next a t s.nodes) (holder a t s.nodes)
-  step_keeps s w (Offer id k) facts can = cond_keeps a laws t (is_full a t s) _ _ facts (offered_at_keeps s (record { worker = w; step = Offer id k }) id k can.0 (slice_get s.nodes id) refl facts can.1.at can.2 can.3)
+  step_keeps s w (Offer id k) facts can = cond_keeps a laws t (is_full a t s) _ _ facts
+      (offered_at_keeps s (record { worker = w; step = Offer id k }) id k can.0 (slice_get s.nodes id) refl facts can.1.at can.2 can.3)
   step_keeps s w (Close id) facts can = close_keeps a laws t s w id facts can

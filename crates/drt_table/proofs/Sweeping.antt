@@ -28,7 +28,8 @@ module _ {L : Type 0} (a : Algebra L) (l : L) (number : ℕ) (xs ns : List (Held
     pub swept : (k : ℕ) (z : Held L) → slice_get xs k ≡ Some z → IsPassed next k z
 
 -- at the start
-pub sweep_start : {L : Type 0} (a : Algebra L) → Laws a → (l : L) (number : ℕ) (xs : List (Held L)) (links heads : List (Option ℕ)) → AreLinked a xs links heads → (next : Option ℕ) → slice_get heads (a.vertex l) ≡ Some next → IsSwept a l number xs xs links heads None next
+pub sweep_start : {L : Type 0} (a : Algebra L) → Laws a → (l : L) (number : ℕ) (xs : List (Held L)) (links heads : List (Option ℕ)) → AreLinked a xs links heads
+    → (next : Option ℕ) → slice_get heads (a.vertex l) ≡ Some next → IsSwept a l number xs xs links heads None next
 sweep_start {L} a laws l number xs links heads linked next head = record {
   linked = linked;
   last_is = first;
@@ -51,7 +52,8 @@ sweep_start {L} a laws l number xs links heads linked next head = record {
       }),
     )
 
-module _ {L : Type 0} (a : Algebra L) (laws : Laws a) (l : L) (number : ℕ) (xs ns : List (Held L)) (links heads : List (Option ℕ)) (last next : Option ℕ) (s : IsSwept a l number xs ns links heads last next) where
+module _ {L : Type 0} (a : Algebra L) (laws : Laws a) (l : L) (number : ℕ) (xs ns : List (Held L)) (links heads : List (Option ℕ)) (last next : Option ℕ)
+    (s : IsSwept a l number xs ns links heads last next) where
   label_at : (k : ℕ) (h z : Held L) → slice_get ns k ≡ Some h → IsPassed a l number xs ns next k z → h.node.label ≡ z.node.label
   label_at k h z at (inl e) = ap (λ (y : Held L). y.node.label) (same_Some h (drop_held a l number z) (sym at ∙ e)) ∙ drop_label a l number z
   label_at k h z at (inr e) = ap (λ (y : Held L). y.node.label) (same_Some h z (sym at ∙ e.0))
@@ -119,11 +121,13 @@ module _ {L : Type 0} (a : Algebra L) (laws : Laws a) (l : L) (number : ℕ) (xs
     all_swept = same_lists ns (map (drop_held a l number) xs) (λ k. same_at k (slice_get xs k) refl ∙ sym (slice_get-map (drop_held a l number) xs k))
 
     -- what comes after `last` has less offset
-    rest : (m : Option ℕ) (o : Option ℕ) → next ≡ o → IsNext a ns (a.vertex l) m o → (k : ℕ) (h : Held L) → IsKeptAt a ns (a.vertex l) k h → IsLinkBelow m (rank a k h) → a.offset h.node.label < a.offset l
+    rest : (m : Option ℕ) (o : Option ℕ) → next ≡ o → IsNext a ns (a.vertex l) m o → (k : ℕ) (h : Held L) → IsKeptAt a ns (a.vertex l) k h → IsLinkBelow m (rank a k h)
+        → a.offset h.node.label < a.offset l
     rest m None e n k h is b = absurd (n k h is b)
     rest m (Some i) e n k h is b =
         let le : rank a k h ≤ rank a i n.held = n.most k h is b in
-        let no : a.offset h.node.label ≤ a.offset n.held.node.label = no_greater (a.offset h.node.label) (a.offset n.held.node.label) k i (small a ns s.linked.few (a.vertex l) k h is) (small a ns s.linked.few (a.vertex l) i n.held n.is) le in
+        let no : a.offset h.node.label ≤ a.offset n.held.node.label = no_greater (a.offset h.node.label) (a.offset n.held.node.label) k i
+            (small a ns s.linked.few (a.vertex l) k h is) (small a ns s.linked.few (a.vertex l) i n.held n.is) le in
         let less : a.offset n.held.node.label < a.offset l = stop i n.held e n.is.at in
         omega arith
 
@@ -137,11 +141,13 @@ module _ {L : Type 0} (a : Algebra L) (laws : Laws a) (l : L) (number : ℕ) (xs
     swept_place = place_at last refl s.last_is
 
 -- the walk stops where a node's offset is less
-pub stop_at : {L : Type 0} (a : Algebra L) (l : L) (ns : List (Held L)) (i : ℕ) (x : Held L) → slice_get ns i ≡ Some x → a.offset x.node.label < a.offset l → (j : ℕ) (y : Held L) → Some i ≡ Some j → slice_get ns j ≡ Some y → a.offset y.node.label < a.offset l
+pub stop_at : {L : Type 0} (a : Algebra L) (l : L) (ns : List (Held L)) (i : ℕ) (x : Held L) → slice_get ns i ≡ Some x → a.offset x.node.label < a.offset l
+    → (j : ℕ) (y : Held L) → Some i ≡ Some j → slice_get ns j ≡ Some y → a.offset y.node.label < a.offset l
 stop_at a l ns i x at less j y e at_y = subst (λ (z : Held _). a.offset z.node.label < a.offset l) (same_Some x y (sym at ∙ (ap (λ k. slice_get ns k) (same_Some i j e) ∙ at_y))) less
 
 -- the last node that stays is one
-pub last_within : {L : Type 0} (a : Algebra L) (l : L) (number : ℕ) (xs ns : List (Held L)) (links heads : List (Option ℕ)) (last next : Option ℕ) → IsSwept a l number xs ns links heads last next → (p : ℕ) → last ≡ Some p → p < length links
+pub last_within : {L : Type 0} (a : Algebra L) (l : L) (number : ℕ) (xs ns : List (Held L)) (links heads : List (Option ℕ)) (last next : Option ℕ)
+    → IsSwept a l number xs ns links heads last next → (p : ℕ) → last ≡ Some p → p < length links
 last_within {L} a l number xs ns links heads last next s p e = subst (λ (n : ℕ). p < n) (sym s.linked.as_many) (at last e s.last_is)
   where
     at : (o : Option ℕ) → o ≡ Some p → IsAfter a ns (a.vertex l) o next → p < length ns
@@ -149,7 +155,8 @@ last_within {L} a l number xs ns links heads last next s p e = subst (λ (n : �
     at (Some q) e after = subst (λ (n : ℕ). n < length ns) (same_Some q p e) (slice_get_within ns q after.0 after.1.at)
 
 -- one step, at node i
-module _ {L : Type 0} (a : Algebra L) (laws : Laws a) (l : L) (number : ℕ) (xs ns : List (Held L)) (links heads : List (Option ℕ)) (last : Option ℕ) (i : ℕ) (s : IsSwept a l number xs ns links heads last (Some i))
+module _ {L : Type 0} (a : Algebra L) (laws : Laws a) (l : L) (number : ℕ) (xs ns : List (Held L)) (links heads : List (Option ℕ)) (last : Option ℕ) (i : ℕ)
+    (s : IsSwept a l number xs ns links heads last (Some i))
     (x : Held L) (at : slice_get ns i ≡ Some x) (o : Option ℕ) (link : slice_get links i ≡ Some o) where
   here : IsKeptAt a ns (a.vertex l) i x
   here =
@@ -246,7 +253,8 @@ module _ {L : Type 0} (a : Algebra L) (laws : Laws a) (l : L) (number : ℕ) (xs
 
     last_dropped : IsAfter a (changed i (drop_held a l number) ns) (a.vertex l) last o
     last_dropped = subst (λ v. IsAfter a (changed i (drop_held a l number) ns) v last o) here.vertex
-        (next_unlinked a ns links heads s.linked i x at here.kept o link (drop_held a l number) (gone a l number x drops_x) last (subst (λ v. IsAfter a ns v last (Some i)) (sym here.vertex) s.last_is))
+        (next_unlinked a ns links heads s.linked i x at here.kept o link (drop_held a l number) (gone a l number x drops_x) last
+            (subst (λ v. IsAfter a ns v last (Some i)) (sym here.vertex) s.last_is))
 
     by_place : (k : ℕ) (z : Held L) → slice_get xs k ≡ Some z → (k ≡ i) ⊎ (k ≡ i → ⊥) → IsPassed a l number xs ns (Some i) k z → IsPassed a l number xs (changed i (drop_held a l number) ns) o k z
     by_place k z at_z (inl e) passed =

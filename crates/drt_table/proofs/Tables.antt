@@ -38,7 +38,8 @@ module _ {L : Type 0} (a : Algebra L) (laws : Laws a) (v : View L) (is : IsTable
   counts_of = subst (λ (s : State L). Counts (setting_of v) s) (sym is.state) (run_counts a (setting_of v) v.log)
 
   pub nodes_few : length v.nodes ≤ length v.graph.vertices + length v.log
-  nodes_few = let h : length (state_of v).nodes ≤ length v.graph.vertices + length v.log = counts_of.few in let e : length (state_of v).nodes ≡ length v.nodes = length-map v.nodes (λ h. h.node) in omega arith
+  nodes_few = let h : length (state_of v).nodes ≤ length v.graph.vertices + length v.log = counts_of.few in
+      let e : length (state_of v).nodes ≡ length v.nodes = length-map v.nodes (λ h. h.node) in omega arith
 
   pub log_within : length v.log ≤ v.budget
   log_within = counts_of.within
@@ -71,7 +72,8 @@ module _ {L : Type 0} (a : Algebra L) (v : View L) where
   not_full h = lt-leb v.budget (length v.log) h
 
   -- a step that changes nothing
-  unchanged_step : (w : ℕ) (step : TableStep) (r : TableReply) → outcome a v w step ≡ unchanged a (setting_of v) (state_of v) r → spares_after r (spares_of v) ≡ spares_of v → IsTableStep a v v w step r
+  unchanged_step : (w : ℕ) (step : TableStep) (r : TableReply) → outcome a v w step ≡ unchanged a (setting_of v) (state_of v) r
+      → spares_after r (spares_of v) ≡ spares_of v → IsTableStep a v v w step r
   unchanged_step w step r e s = record { setting = refl; state = ap (λ (o : Outcome L). o.state) (sym e); reply_is = ap (λ (o : Outcome L). o.reply) (sym e); spares = sym s }
 
   -- a step that is logged
@@ -86,12 +88,17 @@ module _ {L : Type 0} (a : Algebra L) (v : View L) where
   }
 
   pub offer_spent : (w id k : ℕ) → v.budget ≤ length v.log → IsTableStep a v v w (Offer id k) Spent
-  offer_spent w id k h = unchanged_step w (Offer id k) Spent (ap (λ b. cond b (unchanged a (setting_of v) (state_of v) Spent) (offered_at a (setting_of v) (state_of v) (record { worker = w; step = Offer id k }) id k (slice_get (state_of v).nodes id))) (full h)) refl
+  offer_spent w id k h = unchanged_step w (Offer id k) Spent
+      (ap (λ b. cond b (unchanged a (setting_of v) (state_of v) Spent)
+      (offered_at a (setting_of v) (state_of v) (record { worker = w; step = Offer id k }) id k (slice_get (state_of v).nodes id))) (full h)) refl
 
   pub close_spent : (w id : ℕ) → v.budget ≤ length v.log → IsTableStep a v v w (Close id) Spent
-  close_spent w id h = unchanged_step w (Close id) Spent (ap (λ b. cond b (unchanged a (setting_of v) (state_of v) Spent) (logged a (setting_of v) (state_of v) (record { worker = w; step = Close id }) (changed id (λ n. record n { state = Done }) (state_of v).nodes) Closed)) (full h)) refl
+  close_spent w id h = unchanged_step w (Close id) Spent
+      (ap (λ b. cond b (unchanged a (setting_of v) (state_of v) Spent)
+      (logged a (setting_of v) (state_of v) (record { worker = w; step = Close id }) (changed id (λ n. record n { state = Done }) (state_of v).nodes) Closed)) (full h)) refl
 
-  pub close_closed : (new : View L) (w id : ℕ) → setting_of new ≡ setting_of v → new.nodes ≡ changed id close_node v.nodes → new.log ≡ v.log ++ record { worker = w; step = Close id } ∷ [] → length v.log < v.budget → IsTableStep a v new w (Close id) Closed
+  pub close_closed : (new : View L) (w id : ℕ) → setting_of new ≡ setting_of v → new.nodes ≡ changed id close_node v.nodes
+      → new.log ≡ v.log ++ record { worker = w; step = Close id } ∷ [] → length v.log < v.budget → IsTableStep a v new w (Close id) Closed
   close_closed new w id set nodes log h =
       let ns : List (NodeOf L) = changed id (λ (n : NodeOf L). record n { state = Done }) (state_of v).nodes in
       logged_step new w (Close id) Closed ns set
@@ -110,13 +117,15 @@ module _ {L : Type 0} (a : Algebra L) (v : View L) where
   soon_for s (Some k) None = true
   soon_for s (Some k) (Some h) = nat_lt (offset_at a (setting_of v) s.nodes k) (offset_at a (setting_of v) s.nodes h + separation (setting_of v))
 
-  taken_is : (s : State L) (w : ℕ) (p o : Option ℕ) (b c : Bool) → is_full a (setting_of v) s ≡ b → soon_for s p o ≡ c → taken a (setting_of v) s w p o ≡ after_reply s w (take_reply p o b c) (taken_node (take_reply p o b c))
+  taken_is : (s : State L) (w : ℕ) (p o : Option ℕ) (b c : Bool) → is_full a (setting_of v) s ≡ b → soon_for s p o ≡ c
+      → taken a (setting_of v) s w p o ≡ after_reply s w (take_reply p o b c) (taken_node (take_reply p o b c))
   taken_is s w None None b c e f = refl
   taken_is s w None (Some h) true c e f = ap (λ x. cond x (unchanged a (setting_of v) s Spent) (unchanged a (setting_of v) s (Busy h))) e
   taken_is s w None (Some h) false c e f = ap (λ x. cond x (unchanged a (setting_of v) s Spent) (unchanged a (setting_of v) s (Busy h))) e
   taken_is s w (Some k) None true c e f = ap (λ x. cond x (unchanged a (setting_of v) s Spent) (takes a (setting_of v) s w k)) e
   taken_is s w (Some k) None false c e f = ap (λ x. cond x (unchanged a (setting_of v) s Spent) (takes a (setting_of v) s w k)) e
-  taken_is s w (Some k) (Some h) true c e f = ap (λ x. cond x (unchanged a (setting_of v) s Spent) (cond (soon_for s (Some k) (Some h)) (takes a (setting_of v) s w k) (unchanged a (setting_of v) s (Busy h)))) e
+  taken_is s w (Some k) (Some h) true c e f = ap
+      (λ x. cond x (unchanged a (setting_of v) s Spent) (cond (soon_for s (Some k) (Some h)) (takes a (setting_of v) s w k) (unchanged a (setting_of v) s (Busy h)))) e
   taken_is s w (Some k) (Some h) false true e f =
       ap (λ x. cond x (unchanged a (setting_of v) s Spent) (cond (soon_for s (Some k) (Some h)) (takes a (setting_of v) s w k) (unchanged a (setting_of v) s (Busy h)))) e
       ∙ ap (λ x. cond x (takes a (setting_of v) s w k) (unchanged a (setting_of v) s (Busy h))) f
@@ -148,7 +157,8 @@ module _ {L : Type 0} (a : Algebra L) (v : View L) where
 
   take_outcome : (w : ℕ) (p o : Option ℕ) (b c : Bool) (r : TableReply) → Found-for-take p o b c r → outcome a v w Take ≡ after_reply (state_of v) w r (taken_node r)
   take_outcome w p o b c r f =
-      ap (λ x. taken a (setting_of v) (state_of v) w x (holder a (setting_of v) (state_of v).nodes)) (earliest-map is_node_pending (offset a (setting_of v)) (λ (h : Held L). h.node) v.nodes ∙ sym f.next_is)
+      ap (λ x. taken a (setting_of v) (state_of v) w x (holder a (setting_of v) (state_of v).nodes))
+          (earliest-map is_node_pending (offset a (setting_of v)) (λ (h : Held L). h.node) v.nodes ∙ sym f.next_is)
       ∙ (ap (λ x. taken a (setting_of v) (state_of v) w p x) (earliest-map is_taken (offset a (setting_of v)) (λ (h : Held L). h.node) v.nodes ∙ sym f.holder_is)
       ∙ (taken_is (state_of v) w p o b c f.full (soon_same p o ∙ sym f.soon)
       ∙ ap (λ q. after_reply (state_of v) w q (taken_node q)) (sym f.reply)))
@@ -169,7 +179,8 @@ module _ {L : Type 0} (a : Algebra L) (v : View L) where
   pub take_same : (w : ℕ) (p o : Option ℕ) (b c : Bool) (r : TableReply) → Found-for-take p o b c r → taken_node r ≡ None → IsTableStep a v v w Take r
   take_same w p o b c r f e = unchanged_step w Take r (take_outcome w p o b c r f ∙ ap (λ n. after_reply (state_of v) w r n) e) (no_spare r (spares_of v) e p o b c f.reply)
 
-  pub take_taken : (new : View L) (w k : ℕ) (p o : Option ℕ) (b c : Bool) (r : TableReply) → Found-for-take p o b c r → taken_node r ≡ Some k → setting_of new ≡ setting_of v → new.nodes ≡ changed k (take_by w) v.nodes → new.log ≡ v.log ++ record { worker = w; step = Take } ∷ [] → IsTableStep a v new w Take (Taken k)
+  pub take_taken : (new : View L) (w k : ℕ) (p o : Option ℕ) (b c : Bool) (r : TableReply) → Found-for-take p o b c r → taken_node r ≡ Some k
+      → setting_of new ≡ setting_of v → new.nodes ≡ changed k (take_by w) v.nodes → new.log ≡ v.log ++ record { worker = w; step = Take } ∷ [] → IsTableStep a v new w Take (Taken k)
   take_taken new w k p o b c r f e set nodes log =
       let ns : List (NodeOf L) = changed k (λ (n : NodeOf L). record n { state = TakenBy w }) (state_of v).nodes in
       logged_step new w Take (Taken k) ns set
@@ -203,7 +214,8 @@ module _ {L : Type 0} (a : Algebra L) (v : View L) where
       at_reply (Some i) (Some j) false false h = absurd (none-some k h)
 
   -- an offer
-  drop_node : (l : L) (n : ℕ) (h : Held L) (b : Bool) → (cond b (record h { node = record h.node { dropped_by = Some n; state = Done } }) h).node ≡ cond b (record h.node { dropped_by = Some n; state = Done }) h.node
+  drop_node : (l : L) (n : ℕ) (h : Held L) (b : Bool) → (cond b (record h { node = record h.node { dropped_by = Some n; state = Done } }) h).node ≡ cond b
+      (record h.node { dropped_by = Some n; state = Done }) h.node
   drop_node l n h true = refl
   drop_node l n h false = refl
 
@@ -216,7 +228,9 @@ module _ {L : Type 0} (a : Algebra L) (v : View L) (w id k : ℕ) (l : L) where
   added-node : (xs : List (Held L)) → map (λ (h : Held L). h.node) (compared_nodes a l id xs None) ≡ added a (setting_of v) (map (λ (h : Held L). h.node) xs) id l
   added-node xs =
       map-append (λ (h : Held L). h.node) (map (drop_held a l (length xs)) xs) (record { node = fresh l (Some id); spare = true } ∷ [])
-      ∙ (ap (λ ys. ys ++ fresh l (Some id) ∷ []) (map-map_with (λ (h : Held L). h.node) (drop_held a l (length xs)) (drop_by a (setting_of v) l (length xs)) (λ h. drop_node a v l (length xs) h (is_kept h.node && a.dominates l h.node.label)) xs)
+      ∙ (ap (λ ys. ys ++ fresh l (Some id) ∷ [])
+          (map-map_with (λ (h : Held L). h.node) (drop_held a l (length xs)) (drop_by a (setting_of v) l (length xs))
+          (λ h. drop_node a v l (length xs) h (is_kept h.node && a.dominates l h.node.label)) xs)
       ∙ ap (λ n. map (drop_by a (setting_of v) l n) (map (λ (h : Held L). h.node) xs) ++ fresh l (Some id) ∷ []) (sym (length-map xs (λ (h : Held L). h.node))))
 
   added-spare : (xs : List (Held L)) → map (λ (h : Held L). h.spare) (compared_nodes a l id xs None) ≡ map (λ (h : Held L). h.spare) xs ++ true ∷ []
@@ -234,7 +248,8 @@ module _ {L : Type 0} (a : Algebra L) (v : View L) (w id k : ℕ) (l : L) where
   placed_outcome e xs true (Some j) = refl
   placed_outcome e xs true None = logged_eq e _ _ _ _ (sym (added-node xs)) (ap (λ n. Added n) (length-map xs (λ (h : Held L). h.node)))
 
-  placed_spares : (xs : List (Held L)) (b : Bool) (o : Option ℕ) → map (λ (h : Held L). h.spare) (cond b (compared_nodes a l id xs o) xs) ≡ spares_after (cond b (compared_reply xs o) OutOfRange) (map (λ (h : Held L). h.spare) xs)
+  placed_spares : (xs : List (Held L)) (b : Bool) (o : Option ℕ) → map (λ (h : Held L). h.spare) (cond b (compared_nodes a l id xs o) xs) ≡ spares_after
+      (cond b (compared_reply xs o) OutOfRange) (map (λ (h : Held L). h.spare) xs)
   placed_spares xs false o = refl
   placed_spares xs true (Some j) = refl
   placed_spares xs true None = added-spare xs
@@ -259,7 +274,8 @@ module _ {L : Type 0} (a : Algebra L) (v : View L) (w id k : ℕ) (l : L) where
       let ns : List (NodeOf L) = map node (cond b (compared_nodes a l id xs o) xs) in
       let q : TableReply = cond b (compared_reply xs o) OutOfRange in
       let at_node : slice_get s.nodes id ≡ Some x.node = slice_get-map node v.nodes id ∙ ap (λ y. option_map node y) at in
-      let step_1 : outcome a v w (Offer id k) ≡ offered_at a t s e id k (slice_get s.nodes id) = ap (λ y. cond y (unchanged a t s Spent) (offered_at a t s e id k (slice_get s.nodes id))) (not_full a v h) in
+      let step_1 : outcome a v w (Offer id k) ≡ offered_at a t s e id k (slice_get s.nodes id) = ap
+          (λ y. cond y (unchanged a t s Spent) (offered_at a t s e id k (slice_get s.nodes id))) (not_full a v h) in
       let step_2 : offered_at a t s e id k (slice_get s.nodes id) ≡ offered a t s e id (extended a t x.node.label k) = ap (λ y. offered_at a t s e id k y) at_node in
       let step_3 : offered a t s e id (extended a t x.node.label k) ≡ offered a t s e id l = ap (λ y. offered a t s e id y) (sym l_is) in
       let step_4 : offered a t s e id l ≡ cond (in_range a t l) (compared a t s e (map node xs) id l (first (dominating a t l) (map node xs))) (logged a t s e (map node xs) OutOfRange) =
@@ -277,7 +293,8 @@ module _ {L : Type 0} (a : Algebra L) (v : View L) (w id k : ℕ) (l : L) where
       (logged_step a v new w (Offer id k) q ns set (ap (λ ys. map node ys) nodes) log whole spares)
 
 -- a logged step keeps the invariant
-pub table_more : {L : Type 0} (a : Algebra L) (old new : View L) (w : ℕ) (step : TableStep) (r : TableReply) → IsTable a old → CanApply a old w step → IsTableStep a old new w step r → new.log ≡ old.log ++ record { worker = w; step = step } ∷ [] → IsTable a new
+pub table_more : {L : Type 0} (a : Algebra L) (old new : View L) (w : ℕ) (step : TableStep) (r : TableReply) → IsTable a old → CanApply a old w step
+    → IsTableStep a old new w step r → new.log ≡ old.log ++ record { worker = w; step = step } ∷ [] → IsTable a new
 table_more {L} a old new w step r is can h log =
     let t : Setting = setting_of old in
     let e : Entry = record { worker = w; step = step } in
@@ -300,7 +317,8 @@ module _ {L : Type 0} (a : Algebra L) (laws : Laws a) (v : View L) (is : IsTable
   -- an offer that the machine can make
   module _ (w id k : ℕ) (can : CanApply a v w (Offer id k)) (l : L) (comes : (n : NodeOf L) × (slice_get (state_of v).nodes id ≡ Some n) × (l ≡ extended a (setting_of v) n.label k)) where
     pub offer_within : id < length v.nodes
-    offer_within = let h : id < length (state_of v).nodes = slice_get_within (state_of v).nodes id can.0 can.1.at in let e : length (state_of v).nodes ≡ length v.nodes = length-map v.nodes (λ h. h.node) in omega arith
+    offer_within = let h : id < length (state_of v).nodes = slice_get_within (state_of v).nodes id can.0 can.1.at in
+        let e : length (state_of v).nodes ≡ length v.nodes = length-map v.nodes (λ h. h.node) in omega arith
 
     -- the node, its next edge and its vertex
     same_node : comes.0 ≡ can.0
@@ -352,7 +370,8 @@ module _ {L : Type 0} (a : Algebra L) (laws : Laws a) (v : View L) (is : IsTable
 pub offer_alone : {L : Type 0} (a : Algebra L) (laws : Laws a) (v : View L) → IsTable a v → (id : ℕ) → AreAlone a (changed id count_offer v.nodes)
 offer_alone {L} a laws v is id i j g h at_i at_j kept_i kept_j dom = from (before_change id count_offer v.nodes i g at_i) (before_change id count_offer v.nodes j h at_j)
   where
-    label : (k : ℕ) (y : Held L) (b : Before id count_offer v.nodes k y) → ((k ≡ id) × (y ≡ count_offer b.old)) ⊎ (y ≡ b.old) → (y.node.label ≡ b.old.node.label) × (y.node.dropped_by ≡ b.old.node.dropped_by)
+    label : (k : ℕ) (y : Held L) (b : Before id count_offer v.nodes k y) → ((k ≡ id) × (y ≡ count_offer b.old)) ⊎ (y ≡ b.old) → (y.node.label ≡ b.old.node.label)
+        × (y.node.dropped_by ≡ b.old.node.dropped_by)
     label k y b (inl p) = (ap (λ (z : Held L). z.node.label) p.1, ap (λ (z : Held L). z.node.dropped_by) p.1)
     label k y b (inr q) = (ap (λ (z : Held L). z.node.label) q, ap (λ (z : Held L). z.node.dropped_by) q)
 
@@ -366,7 +385,8 @@ offer_alone {L} a laws v is id i j g h at_i at_j kept_i kept_j dom = from (befor
         (subst (λ l. IsTrue (a.dominates l c.old.node.label)) p.0 (subst (λ l. IsTrue (a.dominates g.node.label l)) q.0 dom))
 
 -- whether the table is finished, by the next node and the holder
-pub finished_is : {L : Type 0} (a : Algebra L) (v : View L) (p o : Option ℕ) → p ≡ earliest (λ (h : Held L). is_node_pending h.node) (held_offset a) v.nodes → o ≡ earliest (λ (h : Held L). is_taken h.node) (held_offset a) v.nodes → (is_none p && is_none o) ≡ is_finished a (setting_of v) (state_of v)
+pub finished_is : {L : Type 0} (a : Algebra L) (v : View L) (p o : Option ℕ) → p ≡ earliest (λ (h : Held L). is_node_pending h.node) (held_offset a) v.nodes
+    → o ≡ earliest (λ (h : Held L). is_taken h.node) (held_offset a) v.nodes → (is_none p && is_none o) ≡ is_finished a (setting_of v) (state_of v)
 finished_is {L} a v p o e f =
     ap (λ x. is_none x && is_none o) (e ∙ sym (earliest-map is_node_pending (offset a (setting_of v)) (λ (h : Held L). h.node) v.nodes))
     ∙ ap (λ x. is_none (next a (setting_of v) (state_of v).nodes) && is_none x) (f ∙ sym (earliest-map is_taken (offset a (setting_of v)) (λ (h : Held L). h.node) v.nodes))
@@ -378,9 +398,11 @@ none_result (Some x) true e = absurd (cc)
 none_result (Some x) false e = refl
 
 -- a spare that is handed out changes nothing that the machine sees
-pub table_same_nodes : {L : Type 0} (a : Algebra L) (old new : View L) (id : ℕ) → IsTable a old → setting_of new ≡ setting_of old → new.nodes ≡ changed id hand_out old.nodes → new.log ≡ old.log → IsTable a new
+pub table_same_nodes : {L : Type 0} (a : Algebra L) (old new : View L) (id : ℕ) → IsTable a old → setting_of new ≡ setting_of old
+    → new.nodes ≡ changed id hand_out old.nodes → new.log ≡ old.log → IsTable a new
 table_same_nodes {L} a old new id is set nodes log =
-    let same : state_of new ≡ state_of old = state_eq (map (λ (h : Held L). h.node) new.nodes) (map (λ (h : Held L). h.node) old.nodes) new.log old.log (ap (λ xs. map (λ (h : Held L). h.node) xs) nodes ∙ map-changed_same (λ (h : Held L). h.node) hand_out (λ _. refl) id old.nodes) log in
+    let same : state_of new ≡ state_of old = state_eq (map (λ (h : Held L). h.node) new.nodes) (map (λ (h : Held L). h.node) old.nodes) new.log old.log
+        (ap (λ xs. map (λ (h : Held L). h.node) xs) nodes ∙ map-changed_same (λ (h : Held L). h.node) hand_out (λ _. refl) id old.nodes) log in
     record {
       sound = subst (λ (g : Digraph). IsSoundGraph g) (ap (λ (x : Setting). x.graph) (sym set)) is.sound;
       bound = subst (λ (x : ℕ). IsTrue (a.takes_bound x)) (ap (λ (x : Setting). x.bound) (sym set)) is.bound;
@@ -401,7 +423,8 @@ module _ {L : Type 0} (a : Algebra L) (laws : Laws a) (v : View L) (is : IsTable
   pub node_extendable : IsTrue (a.is_extendable h.node.label)
   node_extendable =
       let w = node_walk in
-      laws.extendable h.node.label (vertex_of v.graph (a.vertex h.node.label)).deadline v.bound (walk_of a laws (setting_of v) is.bound w.0 w.1 h.node.label w.2) (walk_range a laws (setting_of v) w.0 w.1 h.node.label w.2)
+      laws.extendable h.node.label (vertex_of v.graph (a.vertex h.node.label)).deadline v.bound (walk_of a laws (setting_of v) is.bound w.0 w.1 h.node.label w.2)
+          (walk_range a laws (setting_of v) w.0 w.1 h.node.label w.2)
 
   pub node_holds : (w : ℕ) → h.node.state ≡ TakenBy w → Holds a (setting_of v) (state_of v) w id h.node
   node_holds w e = record { at = at_node a laws v is id h at; held = e }
@@ -410,14 +433,18 @@ module _ {L : Type 0} (a : Algebra L) (laws : Laws a) (v : View L) (is : IsTable
   node_all le = let ge : h.node.offered ≤ out_degree v.graph (a.vertex h.node.label) = offered_few a laws v is id h at in omega arith
 
 -- a node that a worker holds, with its spare
-pub held_at : {L : Type 0} (a : Algebra L) (laws : Laws a) (v : View L) → IsTable a v → (w id : ℕ) (n : NodeOf L) → Holds a (setting_of v) (state_of v) w id n → (h : Held L) × (slice_get v.nodes id ≡ Some h) × IsTrue (is_taken h.node)
+pub held_at : {L : Type 0} (a : Algebra L) (laws : Laws a) (v : View L) → IsTable a v → (w id : ℕ) (n : NodeOf L) → Holds a (setting_of v) (state_of v) w id n
+    → (h : Held L) × (slice_get v.nodes id ≡ Some h) × IsTrue (is_taken h.node)
 held_at {L} a laws v is w id n holds =
-    let lt : id < length v.nodes = (let h : id < length (state_of v).nodes = slice_get_within (state_of v).nodes id n holds.at in let e : length (state_of v).nodes ≡ length v.nodes = length-map v.nodes (λ h. h.node) in omega arith) in
+    let lt : id < length v.nodes = (let h : id < length (state_of v).nodes = slice_get_within (state_of v).nodes id n holds.at in
+        let e : length (state_of v).nodes ≡ length v.nodes = length-map v.nodes (λ h. h.node) in omega arith) in
     let x : (h : Held L) × (slice_get v.nodes id ≡ Some h) = get_within v.nodes id lt in
     let same : n ≡ x.0.node = same_Some n x.0.node (sym holds.at ∙ at_node a laws v is id x.0 x.1) in
     (x.0, x.1, ap (λ (m : NodeOf L). is_taken m) (sym same) ∙ ap is_taken_state holds.held)
 
-pub offer_held : {L : Type 0} (a : Algebra L) (laws : Laws a) (v : View L) (is : IsTable a v) (w id k : ℕ) (can : CanApply a v w (Offer id k)) (l : L) (comes : (n : NodeOf L) × (slice_get (state_of v).nodes id ≡ Some n) × (l ≡ extended a (setting_of v) n.label k)) → (h : Held L) × (slice_get v.nodes id ≡ Some h) × (h.node.offered < 1000)
+pub offer_held : {L : Type 0} (a : Algebra L) (laws : Laws a) (v : View L) (is : IsTable a v) (w id k : ℕ) (can : CanApply a v w (Offer id k)) (l : L)
+    (comes : (n : NodeOf L) × (slice_get (state_of v).nodes id ≡ Some n) × (l ≡ extended a (setting_of v) n.label k)) → (h : Held L) × (slice_get v.nodes id ≡ Some h)
+    × (h.node.offered < 1000)
 offer_held {L} a laws v is w id k can l comes =
     let x : (h : Held L) × (slice_get v.nodes id ≡ Some h) = get_within v.nodes id (offer_within a laws v is w id k can l comes) in
     (x.0, x.1, offer_few a laws v is w id k can l comes x.0 x.1)

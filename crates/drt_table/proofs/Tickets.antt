@@ -62,7 +62,8 @@ no_later t u h =
 
 module _ {L : Type 0} (a : Algebra L) (nodes : List (Held L)) where
   -- the first ticket is that of the next node
-  pub first_is_next : (tickets : List Ticket) → AreWaiting a nodes tickets (length nodes) → IsFresh nodes tickets → (t : Ticket) → slice_get tickets 0 ≡ Some t → IsUpperBound ticket_cmp t tickets → Some t.0.1 ≡ earliest (λ (h : Held L). is_node_pending h.node) (held_offset a) nodes
+  pub first_is_next : (tickets : List Ticket) → AreWaiting a nodes tickets (length nodes) → IsFresh nodes tickets → (t : Ticket) → slice_get tickets 0 ≡ Some t
+      → IsUpperBound ticket_cmp t tickets → Some t.0.1 ≡ earliest (λ (h : Held L). is_node_pending h.node) (held_offset a) nodes
   first_is_next tickets w fresh t at bound =
       let top = fresh t at in
       let own = w.sound t (contains_at tickets 0 t at) in
@@ -80,7 +81,8 @@ module _ {L : Type 0} (a : Algebra L) (nodes : List (Held L)) where
       below_or_same : (m n : ℕ) → n ≤ m → (n < m) ⊎ (m ≡ n)
       below_or_same m n le = grind arith
 
-      strict : (j : ℕ) (y : Held L) → j < t.0.1 → is_node_pending y.node ≡ true → t.0.0 ≤ held_offset a y → (held_offset a y ≡ t.0.0 → t.0.1 ≤ j) → held_offset a (fresh t at).0 ≡ t.0.0 → (t.0.0 < held_offset a y) ⊎ (held_offset a y ≡ t.0.0) → held_offset a (fresh t at).0 < held_offset a y
+      strict : (j : ℕ) (y : Held L) → j < t.0.1 → is_node_pending y.node ≡ true → t.0.0 ≤ held_offset a y → (held_offset a y ≡ t.0.0 → t.0.1 ≤ j)
+          → held_offset a (fresh t at).0 ≡ t.0.0 → (t.0.0 < held_offset a y) ⊎ (held_offset a y ≡ t.0.0) → held_offset a (fresh t at).0 < held_offset a y
       strict j y lt p le after offset (inl less) = omega arith
       strict j y lt p le after offset (inr e) = absurd (let no : t.0.1 ≤ j = after e in omega arith)
 
@@ -93,7 +95,8 @@ module _ {L : Type 0} (a : Algebra L) (nodes : List (Held L)) where
       not_pending k y at true e = absurd (let c = w.all k y (slice_get_within nodes k y at) at e in let lt : c.0 < length tickets = c.1 in omega arith)
 
   -- one more node has its ticket
-  pub pushed_ticket : (tickets more : List Ticket) (k : ℕ) (h : Held L) (m : ℕ) → AreWaiting a nodes tickets k → slice_get nodes k ≡ Some h → m ≡ held_offset a h → IsPermutation (ticket m k ∷ tickets) more → AreWaiting a nodes more (k + 1)
+  pub pushed_ticket : (tickets more : List Ticket) (k : ℕ) (h : Held L) (m : ℕ) → AreWaiting a nodes tickets k → slice_get nodes k ≡ Some h → m ≡ held_offset a h
+      → IsPermutation (ticket m k ∷ tickets) more → AreWaiting a nodes more (k + 1)
   pushed_ticket tickets more k h m w at e perm = record { sound = sound; all = all }
     where
       sound : (t : Ticket) → Contains more t → (x : Held L) × (slice_get nodes t.0.1 ≡ Some x) × (held_offset a x ≡ t.0.0)
@@ -113,10 +116,12 @@ module _ {L : Type 0} (a : Algebra L) (nodes : List (Held L)) where
           by_case (inl less) = contains_tail (ticket m k) tickets (ticket (held_offset a x) j) (w.all j x less g p)
           by_case (inr s) =
               let same : h ≡ x = same_Some h x (sym at ∙ (ap (λ i. slice_get nodes i) s ∙ g)) in
-              subst (λ (u : Ticket). Contains (ticket m k ∷ tickets) u) (ap (λ i. ticket m i) s ∙ ap (λ o. ticket o j) (e ∙ ap (λ (y : Held L). held_offset a y) same)) (contains_head (ticket m k) tickets)
+              subst (λ (u : Ticket). Contains (ticket m k ∷ tickets) u) (ap (λ i. ticket m i) s ∙ ap (λ o. ticket o j) (e ∙ ap (λ (y : Held L). held_offset a y) same))
+                  (contains_head (ticket m k) tickets)
 
   -- a ticket of a node that doesn't wait is gone
-  pub popped_ticket : (tickets rest : List Ticket) (number : ℕ) (t : Ticket) (h : Held L) → AreWaiting a nodes tickets number → slice_get nodes t.0.1 ≡ Some h → is_node_pending h.node ≡ false → IsPermutation tickets (t ∷ rest) → AreWaiting a nodes rest number
+  pub popped_ticket : (tickets rest : List Ticket) (number : ℕ) (t : Ticket) (h : Held L) → AreWaiting a nodes tickets number → slice_get nodes t.0.1 ≡ Some h
+      → is_node_pending h.node ≡ false → IsPermutation tickets (t ∷ rest) → AreWaiting a nodes rest number
   popped_ticket tickets rest number t h w at idle perm = record { sound = sound; all = all }
     where
       sound : (u : Ticket) → Contains rest u → (x : Held L) × (slice_get nodes u.0.1 ≡ Some x) × (held_offset a x ≡ u.0.0)
@@ -131,7 +136,8 @@ module _ {L : Type 0} (a : Algebra L) (nodes : List (Held L)) where
               absurd (true_not_false p (ap (λ (y : Held L). is_node_pending y.node) (sym same) ∙ idle))
           by_case (inr c) = c
 
-  pub popped_stale : (tickets rest : List Ticket) (number : ℕ) → AreWaiting a nodes tickets number → IsStale nodes tickets → (t : Ticket) × (slice_get tickets 0 ≡ Some t) × IsPermutation tickets (t ∷ rest) → AreWaiting a nodes rest number
+  pub popped_stale : (tickets rest : List Ticket) (number : ℕ) → AreWaiting a nodes tickets number → IsStale nodes tickets → (t : Ticket) × (slice_get tickets 0 ≡ Some t)
+      × IsPermutation tickets (t ∷ rest) → AreWaiting a nodes rest number
   popped_stale tickets rest number w stale popped =
       let same : popped.0 ≡ stale.0 = same_Some popped.0 stale.0 (sym popped.1 ∙ stale.1) in
       popped_ticket tickets rest number stale.0 stale.2 w stale.3 stale.4 (subst (λ (t : Ticket). IsPermutation tickets (t ∷ rest)) same popped.2)
@@ -139,9 +145,11 @@ module _ {L : Type 0} (a : Algebra L) (nodes : List (Held L)) where
 -- the nodes are these, with others after them; their labels stay, and none of them begins to wait
 pub record StayWaiting {L : Type 0} (nodes later : List (Held L)) : Type 0 where
   pub forth : (k : ℕ) (x : Held L) → slice_get nodes k ≡ Some x → (y : Held L) × (slice_get later k ≡ Some y) × (y.node.label ≡ x.node.label)
-  pub back : (k : ℕ) (y : Held L) → k < length nodes → slice_get later k ≡ Some y → (x : Held L) × (slice_get nodes k ≡ Some x) × (y.node.label ≡ x.node.label) × (is_node_pending y.node ≡ true → is_node_pending x.node ≡ true)
+  pub back : (k : ℕ) (y : Held L) → k < length nodes → slice_get later k ≡ Some y → (x : Held L) × (slice_get nodes k ≡ Some x) × (y.node.label ≡ x.node.label)
+      × (is_node_pending y.node ≡ true → is_node_pending x.node ≡ true)
 
-pub still_waiting : {L : Type 0} (a : Algebra L) (nodes later : List (Held L)) (tickets : List Ticket) → StayWaiting nodes later → AreWaiting a nodes tickets (length nodes) → AreWaiting a later tickets (length nodes)
+pub still_waiting : {L : Type 0} (a : Algebra L) (nodes later : List (Held L)) (tickets : List Ticket) → StayWaiting nodes later
+    → AreWaiting a nodes tickets (length nodes) → AreWaiting a later tickets (length nodes)
 still_waiting {L} a nodes later tickets stay w = record { sound = sound; all = all }
   where
     sound : (t : Ticket) → Contains tickets t → (h : Held L) × (slice_get later t.0.1 ≡ Some h) × (held_offset a h ≡ t.0.0)

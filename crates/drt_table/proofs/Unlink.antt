@@ -82,7 +82,8 @@ module _ {L : Type 0} (a : Algebra L) (nodes : List (Held L)) (links heads : Lis
   }
 
   -- where i came next, what comes after i does now
-  spliced : (m : Option ℕ) (q : Option ℕ) → IsGreatest a nodes (a.vertex h.node.label) m i → IsNext a nodes (a.vertex h.node.label) (Some (rank a i h)) q → IsNext a (changed i g nodes) (a.vertex h.node.label) m q
+  spliced : (m : Option ℕ) (q : Option ℕ) → IsGreatest a nodes (a.vertex h.node.label) m i → IsNext a nodes (a.vertex h.node.label) (Some (rank a i h)) q
+      → IsNext a (changed i g nodes) (a.vertex h.node.label) m q
   spliced m q first next = by_next q next
     where
       h_is : first.held ≡ h
@@ -134,7 +135,8 @@ module _ {L : Type 0} (a : Algebra L) (nodes : List (Held L)) (links heads : Lis
 
   -- the head takes over the link
   module _ (first : IsGreatest a nodes (a.vertex h.node.label) None i) where
-    head_at : (v : ℕ) (q : Option ℕ) → slice_get (set heads (a.vertex h.node.label) o) v ≡ Some q → (v ≡ a.vertex h.node.label) ⊎ (v ≡ a.vertex h.node.label → ⊥) → IsNext a (changed i g nodes) v None q
+    head_at : (v : ℕ) (q : Option ℕ) → slice_get (set heads (a.vertex h.node.label) o) v ≡ Some q → (v ≡ a.vertex h.node.label) ⊎ (v ≡ a.vertex h.node.label → ⊥)
+        → IsNext a (changed i g nodes) v None q
     head_at v q s (inl same) =
         let q_is : q ≡ o = set_here heads (a.vertex h.node.label) o q (subst (λ k. slice_get (set heads (a.vertex h.node.label) o) k ≡ Some q) same s) in
         subst (λ k. IsNext a (changed i g nodes) k None q) (sym same) (subst (λ k. IsNext a (changed i g nodes) (a.vertex h.node.label) None k) (sym q_is) (spliced None o first next_is))
@@ -143,7 +145,8 @@ module _ {L : Type 0} (a : Algebra L) (nodes : List (Held L)) (links heads : Lis
         stays v None q (other_vertex v None q d old) old
 
     -- no node has i for its link
-    no_link : (j : ℕ) (m : Held L) (q : Option ℕ) → IsKeptAt a nodes (a.vertex m.node.label) j m → IsNext a nodes (a.vertex m.node.label) (Some (rank a j m)) q → (a.vertex m.node.label ≡ a.vertex h.node.label) ⊎ (a.vertex m.node.label ≡ a.vertex h.node.label → ⊥) → q ≡ Some i → ⊥
+    no_link : (j : ℕ) (m : Held L) (q : Option ℕ) → IsKeptAt a nodes (a.vertex m.node.label) j m → IsNext a nodes (a.vertex m.node.label) (Some (rank a j m)) q
+        → (a.vertex m.node.label ≡ a.vertex h.node.label) ⊎ (a.vertex m.node.label ≡ a.vertex h.node.label → ⊥) → q ≡ Some i → ⊥
     no_link j m q is old (inr d) e = other_vertex (a.vertex m.node.label) (Some (rank a j m)) q d old e
     no_link j m None is old (inl same) e = absurd (cc)
     no_link j m (Some q) is old (inl same) e =
@@ -207,13 +210,15 @@ module _ {L : Type 0} (a : Algebra L) (nodes : List (Held L)) (links heads : Lis
         let b = i_below in
         absurd (omega arith)
 
-    link_stays : (j : ℕ) (m : Held L) (q : Option ℕ) → IsKeptAt a nodes (a.vertex m.node.label) j m → IsNext a nodes (a.vertex m.node.label) (Some (rank a j m)) q → (j ≡ p → ⊥) → (a.vertex m.node.label ≡ a.vertex h.node.label) ⊎ (a.vertex m.node.label ≡ a.vertex h.node.label → ⊥) → q ≡ Some i → ⊥
+    link_stays : (j : ℕ) (m : Held L) (q : Option ℕ) → IsKeptAt a nodes (a.vertex m.node.label) j m → IsNext a nodes (a.vertex m.node.label) (Some (rank a j m)) q
+        → (j ≡ p → ⊥) → (a.vertex m.node.label ≡ a.vertex h.node.label) ⊎ (a.vertex m.node.label ≡ a.vertex h.node.label → ⊥) → q ≡ Some i → ⊥
     link_stays j m q is old ne (inr d) e = other_vertex (a.vertex m.node.label) (Some (rank a j m)) q d old e
     link_stays j m None is old ne (inl same) e = absurd (cc)
     link_stays j m (Some q) is old ne (inl same) e =
         ne (only_p j m q (subst (λ v. IsKeptAt a nodes v j m) same is) (subst (λ v. IsGreatest a nodes v (Some (rank a j m)) q) same old) (same_Some q i e))
 
-    link_at : (j : ℕ) (m : Held L) (q : Option ℕ) → IsKeptAt a nodes (a.vertex m.node.label) j m → slice_get (set links p o) j ≡ Some q → (j ≡ p) ⊎ (j ≡ p → ⊥) → IsNext a (changed i g nodes) (a.vertex m.node.label) (Some (rank a j m)) q
+    link_at : (j : ℕ) (m : Held L) (q : Option ℕ) → IsKeptAt a nodes (a.vertex m.node.label) j m → slice_get (set links p o) j ≡ Some q → (j ≡ p) ⊎ (j ≡ p → ⊥)
+        → IsNext a (changed i g nodes) (a.vertex m.node.label) (Some (rank a j m)) q
     link_at j m q is l (inl same) =
         let m_is : hp ≡ m = same_Some hp m (sym is_p.at ∙ (ap (λ k. slice_get nodes k) (sym same) ∙ is.at)) in
         let q_is : q ≡ o = set_here links p o q (subst (λ k. slice_get (set links p o) k ≡ Some q) same l) in
@@ -235,7 +240,8 @@ module _ {L : Type 0} (a : Algebra L) (nodes : List (Held L)) (links heads : Lis
     }
 
   -- what came after i comes after the one before it
-  pub unlinked : (last : Option ℕ) → IsAfter a nodes (a.vertex h.node.label) last (Some i) → AreLinked a (changed i g nodes) (links_after last o links) (heads_after (a.vertex h.node.label) last o heads)
+  pub unlinked : (last : Option ℕ) → IsAfter a nodes (a.vertex h.node.label) last (Some i)
+      → AreLinked a (changed i g nodes) (links_after last o links) (heads_after (a.vertex h.node.label) last o heads)
   unlinked None e = unlinked_head e
   unlinked (Some p) e = unlinked_link p e.0 e.1 e.2
 

@@ -40,7 +40,8 @@ sum-pushed f g (x ∷ xs) z h e = let here : f (g x) ≡ f x = h 0 x refl in let
 pub kept_entries : {L : Type 0} (n : NodeOf L) → IsTrue (is_kept n) → node_entries n ≡ n.offered + state_entries n.state
 kept_entries n k = ap (λ b. cond b (n.offered + state_entries n.state) 0) k
 
-one_more : {L : Type 0} (g : NodeOf L → NodeOf L) (n : NodeOf L) → IsTrue (is_kept n) → IsTrue (is_kept (g n)) → (g n).offered + state_entries (g n).state ≡ n.offered + state_entries n.state + 1 → node_entries (g n) ≡ node_entries n + 1
+one_more : {L : Type 0} (g : NodeOf L → NodeOf L) (n : NodeOf L) → IsTrue (is_kept n) → IsTrue (is_kept (g n))
+    → (g n).offered + state_entries (g n).state ≡ n.offered + state_entries n.state + 1 → node_entries (g n) ≡ node_entries n + 1
 one_more g n k j e = let p = kept_entries n k in let q = kept_entries (g n) j in omega (arith, p, q, e)
 
 -- no label twice
@@ -65,7 +66,8 @@ module _ {L : Type 0} (a : Algebra L) (laws : Laws a) (t : Setting) (takes_bound
   drop_label l number n false = refl
 
   -- no old node has the new label
-  new_label : (nodes : List (NodeOf L)) (id : ℕ) (l : L) → Facts a t nodes → IsUndominated a laws t nodes id l → AreDistinct nodes → (j : ℕ) (n : NodeOf L) → slice_get nodes j ≡ Some n → n.label ≡ l → ⊥
+  new_label : (nodes : List (NodeOf L)) (id : ℕ) (l : L) → Facts a t nodes → IsUndominated a laws t nodes id l → AreDistinct nodes → (j : ℕ) (n : NodeOf L)
+      → slice_get nodes j ≡ Some n → n.label ≡ l → ⊥
   new_label nodes id l facts none d j n at e =
       let c : IsCovered a t nodes n.label = node_covered a laws t takes_bound nodes facts j n at in
       none.no c.by c.node c.kept.at c.kept.kept (ap (λ x. a.dominates c.node.label x) (sym e) ∙ c.dominates)
@@ -74,7 +76,8 @@ module _ {L : Type 0} (a : Algebra L) (laws : Laws a) (t : Setting) (takes_bound
     kept_label : (x : NodeOf L) → x.label ≡ (drop_by a t l (length nodes) x).label
     kept_label x = sym (drop_label l (length nodes) x (is_kept x && a.dominates l x.label))
 
-    once_at : (i j : ℕ) (m n : NodeOf L) → m.label ≡ n.label → Pushed (drop_by a t l (length nodes)) nodes (fresh l (Some id)) i m → Pushed (drop_by a t l (length nodes)) nodes (fresh l (Some id)) j n → i ≡ j
+    once_at : (i j : ℕ) (m n : NodeOf L) → m.label ≡ n.label → Pushed (drop_by a t l (length nodes)) nodes (fresh l (Some id)) i m
+        → Pushed (drop_by a t l (length nodes)) nodes (fresh l (Some id)) j n → i ≡ j
     once_at i j m n e (earlier x at is lt) (earlier y bt js lu) =
         d.once i j x y at bt (kept_label x ∙ (ap (λ z. z.label) (sym is) ∙ (e ∙ (ap (λ z. z.label) js ∙ sym (kept_label y)))))
     once_at i j m n e (earlier x at is lt) (last g js) = absurd (no_old i x at (kept_label x ∙ (ap (λ z. z.label) (sym is) ∙ (e ∙ ap (λ z. z.label) js))))
@@ -82,9 +85,12 @@ module _ {L : Type 0} (a : Algebra L) (laws : Laws a) (t : Setting) (takes_bound
     once_at i j m n e (last g is) (last h js) = g ∙ sym h
 
     distinct_pushed : AreDistinct (added a t nodes id l)
-    distinct_pushed = record { once = λ i j m n hm hn e. once_at i j m n e (before_push (drop_by a t l (length nodes)) nodes (fresh l (Some id)) i m hm) (before_push (drop_by a t l (length nodes)) nodes (fresh l (Some id)) j n hn) }
+    distinct_pushed = record
+        { once = λ i j m n hm hn e. once_at i j m n e (before_push (drop_by a t l (length nodes)) nodes (fresh l (Some id)) i m hm)
+        (before_push (drop_by a t l (length nodes)) nodes (fresh l (Some id)) j n hn) }
 
-  entries_logged : (s : State L) (e : Entry) (ns : List (NodeOf L)) (r : TableReply) → total node_entries ns ≡ total node_entries s.nodes + 1 → length s.log ≡ total node_entries s.nodes → length (logged a t s e ns r).state.log ≡ total node_entries (logged a t s e ns r).state.nodes
+  entries_logged : (s : State L) (e : Entry) (ns : List (NodeOf L)) (r : TableReply) → total node_entries ns ≡ total node_entries s.nodes + 1
+      → length s.log ≡ total node_entries s.nodes → length (logged a t s e ns r).state.log ≡ total node_entries (logged a t s e ns r).state.nodes
   entries_logged s e ns r h c = let more : length (s.log ++ e ∷ []) ≡ length s.log + 1 = length-append s.log (e ∷ []) in omega arith
 
   -- what a step keeps
@@ -103,7 +109,8 @@ module _ {L : Type 0} (a : Algebra L) (laws : Laws a) (t : Setting) (takes_bound
         let kept : IsTrue (is_kept f.item) = order.pending_kept i f.item f.at f.passes in
         let pending : state_entries f.item.state ≡ 0 = ap state_entries (pending_state f.item f.passes) in
         let more : total node_entries (changed i g s.nodes) ≡ total node_entries s.nodes + 1 = sum-changed node_entries g i s.nodes f.item f.at (one_more g f.item kept kept (omega arith)) in
-        record { distinct_labels = distinct_changed i g s.nodes (λ _. refl) k.distinct_labels; entries = entries_logged s (record { worker = w; step = Take }) (changed i g s.nodes) (Taken i) more k.entries }
+        record { distinct_labels = distinct_changed i g s.nodes (λ _. refl) k.distinct_labels; entries = entries_logged s (record { worker = w; step = Take })
+            (changed i g s.nodes) (Taken i) more k.entries }
 
     keeps_taken : (w : ℕ) (p o : Option ℕ) → next a t s.nodes ≡ p → Keeps (taken a t s w p o).state
     keeps_taken w None None e = k
@@ -111,7 +118,8 @@ module _ {L : Type 0} (a : Algebra L) (laws : Laws a) (t : Setting) (takes_bound
     keeps_taken w (Some i) None e = keeps_cond (is_full a t s) _ _ k (keeps_takes w i (found_earliest is_node_pending (offset a t) s.nodes i e))
     keeps_taken w (Some i) (Some h) e =
         keeps_cond (is_full a t s) _ _ k
-        (keeps_cond (nat_lt (offset_at a t s.nodes i) (offset_at a t s.nodes h + separation t)) (takes a t s w i) (unchanged a t s (Busy h)) (keeps_takes w i (found_earliest is_node_pending (offset a t) s.nodes i e)) k)
+        (keeps_cond (nat_lt (offset_at a t s.nodes i) (offset_at a t s.nodes h + separation t)) (takes a t s w i) (unchanged a t s (Busy h))
+            (keeps_takes w i (found_earliest is_node_pending (offset a t) s.nodes i e)) k)
 
     keeps_close : (w id : ℕ) (n : NodeOf L) → slice_get s.nodes id ≡ Some n → n.state ≡ TakenBy w → Keeps (step_of a t s w (Close id)).state
     keeps_close w id n at held =
@@ -119,7 +127,9 @@ module _ {L : Type 0} (a : Algebra L) (laws : Laws a) (t : Setting) (takes_bound
         let kept : IsTrue (is_kept n) = order.taken_kept id n at (taken_is a t n w held) in
         let one : state_entries n.state ≡ 1 = ap state_entries held in
         let more : total node_entries (changed id g s.nodes) ≡ total node_entries s.nodes + 1 = sum-changed node_entries g id s.nodes n at (one_more g n kept kept (omega arith)) in
-        keeps_cond (is_full a t s) _ _ k (record { distinct_labels = distinct_changed id g s.nodes (λ _. refl) k.distinct_labels; entries = entries_logged s (record { worker = w; step = Close id }) (changed id g s.nodes) Closed more k.entries })
+        keeps_cond (is_full a t s) _ _ k
+            (record { distinct_labels = distinct_changed id g s.nodes (λ _. refl) k.distinct_labels; entries = entries_logged s (record { worker = w; step = Close id })
+            (changed id g s.nodes) Closed more k.entries })
 
     module _ (e : Entry) (w id : ℕ) (n : NodeOf L) (at : slice_get s.nodes id ≡ Some n) (held : n.state ≡ TakenBy w) (l : L) (later : offset a t n + separation t ≤ a.offset l) where
       counted_more : total node_entries (changed id count_one s.nodes) ≡ total node_entries s.nodes + 1
@@ -145,13 +155,15 @@ module _ {L : Type 0} (a : Algebra L) (laws : Laws a) (t : Setting) (takes_bound
       -- a node that is dropped had no entries
       dropped_none : (j : ℕ) (m : NodeOf L) → slice_get (changed id count_one s.nodes) j ≡ Some m → IsTrue (is_kept m) → IsTrue (a.dominates l m.label) → node_entries m ≡ 0
       dropped_none j m h kept d =
-          let p : IsTrue (is_node_pending m) = only_pending a t sound laws (changed id count_one s.nodes) id (count_one n) (counted_at a t sound laws s e w id n at held order) (taken_is a t n w held) l later now j m h kept d m.state refl in
+          let p : IsTrue (is_node_pending m) = only_pending a t sound laws (changed id count_one s.nodes) id (count_one n)
+              (counted_at a t sound laws s e w id n at held order) (taken_is a t n w held) l later now j m h kept d m.state refl in
           let none : m.offered ≡ 0 = now.pending_idle j m h p in
           let state : state_entries m.state ≡ 0 = ap state_entries (pending_state m p) in
           let both = kept_entries m kept in
           omega (arith, none, state, both)
 
-      drop_entries : (number j : ℕ) (m : NodeOf L) (b c : Bool) → slice_get (changed id count_one s.nodes) j ≡ Some m → is_kept m ≡ b → a.dominates l m.label ≡ c → node_entries (cond (b && c) (record m { dropped_by = Some number; state = Done }) m) ≡ node_entries m
+      drop_entries : (number j : ℕ) (m : NodeOf L) (b c : Bool) → slice_get (changed id count_one s.nodes) j ≡ Some m → is_kept m ≡ b → a.dominates l m.label ≡ c
+          → node_entries (cond (b && c) (record m { dropped_by = Some number; state = Done }) m) ≡ node_entries m
       drop_entries number j m true true h p q = sym (dropped_none j m h p q)
       drop_entries number j m true false h p q = refl
       drop_entries number j m false c h p q = refl
@@ -170,9 +182,11 @@ module _ {L : Type 0} (a : Algebra L) (laws : Laws a) (t : Setting) (takes_bound
           }
 
       keeps_offered : Keeps (offered a t s e id l).state
-      keeps_offered = keeps_cond (in_range a t l) _ _ (keeps_compared (first (dominating a t l) (changed id count_one s.nodes)) refl) (record { distinct_labels = counted_distinct; entries = entries_logged s e (changed id count_one s.nodes) OutOfRange counted_more k.entries })
+      keeps_offered = keeps_cond (in_range a t l) _ _ (keeps_compared (first (dominating a t l) (changed id count_one s.nodes)) refl)
+          (record { distinct_labels = counted_distinct; entries = entries_logged s e (changed id count_one s.nodes) OutOfRange counted_more k.entries })
 
-    keeps_offered_at : (e : Entry) (w id i : ℕ) (m : NodeOf L) (o : Option (NodeOf L)) → slice_get s.nodes id ≡ o → slice_get s.nodes id ≡ Some m → m.state ≡ TakenBy w → i < out_degree t.graph (a.vertex m.label) → Keeps (offered_at a t s e id i o).state
+    keeps_offered_at : (e : Entry) (w id i : ℕ) (m : NodeOf L) (o : Option (NodeOf L)) → slice_get s.nodes id ≡ o → slice_get s.nodes id ≡ Some m → m.state ≡ TakenBy w
+        → i < out_degree t.graph (a.vertex m.label) → Keeps (offered_at a t s e id i o).state
     keeps_offered_at e w id i m None h at held lt = k
     keeps_offered_at e w id i m (Some n) h at held lt =
         let same : m ≡ n = same_Some m n (sym at ∙ h) in
@@ -189,7 +203,8 @@ module _ {L : Type 0} (a : Algebra L) (laws : Laws a) (t : Setting) (takes_bound
   opening_none zero v = refl
   opening_none (suc n) v = at_head (in_range a t (opening_label a t v)) (opening_none n (v + 1))
     where
-      at_head : (b : Bool) → total node_entries (opening_nodes a t (v + 1) n) ≡ 0 → total node_entries (cond b (fresh (opening_label a t v) None ∷ opening_nodes a t (v + 1) n) (opening_nodes a t (v + 1) n)) ≡ 0
+      at_head : (b : Bool) → total node_entries (opening_nodes a t (v + 1) n) ≡ 0
+          → total node_entries (cond b (fresh (opening_label a t v) None ∷ opening_nodes a t (v + 1) n) (opening_nodes a t (v + 1) n)) ≡ 0
       at_head true h = omega (arith, h)
       at_head false h = h
 

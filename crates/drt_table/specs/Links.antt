@@ -58,7 +58,8 @@ module _ {L : Type 0} (a : Algebra L) where
 
   -- No kept node dominates another one.
   abbrev pub AreAlone : List (Held L) → Type 0
-  AreAlone nodes = (i j : ℕ) (g h : Held L) → slice_get nodes i ≡ Some g → slice_get nodes j ≡ Some h → IsTrue (is_kept g.node) → IsTrue (is_kept h.node) → IsTrue (a.dominates g.node.label h.node.label) → i ≡ j
+  AreAlone nodes = (i j : ℕ) (g h : Held L) → slice_get nodes i ≡ Some g → slice_get nodes j ≡ Some h → IsTrue (is_kept g.node) → IsTrue (is_kept h.node)
+      → IsTrue (a.dominates g.node.label h.node.label) → i ≡ j
 
 -- The link after a node of the list of a vertex, or its head where there is none.
 abbrev pub IsLink : ℕ → Option ℕ → Option ℕ → List (Option ℕ) → List (Option ℕ) → Type 0

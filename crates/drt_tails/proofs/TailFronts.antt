@@ -68,7 +68,8 @@ module _ (g h : Digraph) (bound : ℕ) (sound : IsSoundGraph g) (turned : IsTurn
         some = omega (arith, within);
         first = omega (arith, low, same);
         rising = rising u;
-        below = All-weaker (IsOfEntry front u) (λ j. j.offset < bound) (λ j source. let w = (walk_of_jump u j source).within in let d = turned.due u l in omega (arith, w, d)) (jumps_at front u) (of_entries front u);
+        below = All-weaker (IsOfEntry front u) (λ j. j.offset < bound) (λ j source. let w = (walk_of_jump u j source).within in let d = turned.due u l in
+            omega (arith, w, d)) (jumps_at front u) (of_entries front u);
       }
 
   module _ (tail : TailClaim) (cut : tail.curves ≡ map (jumps_at front) (range_with_len 0 (vertex_count g))) where
@@ -110,7 +111,8 @@ module _ (g h : Digraph) (bound : ℕ) (sound : IsSoundGraph g) (turned : IsTurn
         let edge = gap_of h (edge_of g u k).to u (edge_of g u k).sep (turned.edges u (edge_of g u k).to (edge_of g u k).sep (sep_of_edge g sound u k l lk)) in
         subst (All (IsAboveJump bound g tail u k)) (sym (curve_at (edge_of g u k).to lv))
         (All-weaker (IsOfEntry front (edge_of g u k).to) (IsAboveJump bound g tail u k)
-        (λ j source near. subst (λ jumps. wcet g u + j.work ≤ value_before jumps (j.offset + (edge_of g u k).sep + 1)) (sym (curve_at u l)) (extension_is u (edge_of g u k).to (edge_of g u k).sep edge l j source near))
+        (λ j source near. subst (λ jumps. wcet g u + j.work ≤ value_before jumps (j.offset + (edge_of g u k).sep + 1)) (sym (curve_at u l))
+            (extension_is u (edge_of g u k).to (edge_of g u k).sep edge l j source near))
         (jumps_at front (edge_of g u k).to) (of_entries front (edge_of g u k).to))
 
     pub bounds_is : BoundsWalks bound g tail
@@ -137,7 +139,8 @@ module _ (g h : Digraph) (bound : ℕ) (sound : IsSoundGraph g) (turned : IsTurn
     attained_is u l = subst (All (IsAttainedAt g u)) (sym (curve_at u l)) (All-weaker (IsOfEntry front u) (IsAttainedAt g u) (attained_at u) (jumps_at front u) (of_entries front u))
 
 -- What the front of the turned graph says of the tail that is cut from it.
-pub found : (g h : Digraph) (graphs : List Digraph) (bound : ℕ) (front : List FrontEntry) (tail : TailClaim) → IsSoundGraph g → AreTurnedGraphs g graphs → h ≡ graph_of graphs 0 → IsSoundGraph h → 1 ≤ bound → IsMergedFront h bound front
+pub found : (g h : Digraph) (graphs : List Digraph) (bound : ℕ) (front : List FrontEntry) (tail : TailClaim) → IsSoundGraph g → AreTurnedGraphs g graphs
+    → h ≡ graph_of graphs 0 → IsSoundGraph h → 1 ≤ bound → IsMergedFront h bound front
     → tail.curves ≡ map (jumps_at front) (range_with_len 0 (vertex_count g)) → IsTail bound g tail × BoundsWalks bound g tail × IsAttained g tail
 found g h graphs bound front tail sound are named named_sound some is cut =
     let e : h ≡ digraph_of are.task = named ∙ ap (λ (xs : List Digraph). graph_of xs 0) are.are in

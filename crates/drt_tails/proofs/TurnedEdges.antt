@@ -17,7 +17,8 @@ use Rattle.drt_graph.proofs.Edges.{edge_of_sep, sep_of_edge, source_of, target_o
 use Rattle.drt_tails.specs.Turned.{AreTurned, AreTurnedTo, IsTurned, IsTurnedEdge, IsTurnedTask, turned_edge, urgent}
 
 -- One more edge.
-pub edges_more : (g : Digraph) (u k : ℕ) (edges new : List Edge) → u < vertex_count g → k < out_degree g u → AreTurnedTo g u k edges → new ≡ edges ++ turned_edge g u k ∷ [] → AreTurnedTo g u (k + 1) new
+pub edges_more : (g : Digraph) (u k : ℕ) (edges new : List Edge) → u < vertex_count g → k < out_degree g u → AreTurnedTo g u k edges
+    → new ≡ edges ++ turned_edge g u k ∷ [] → AreTurnedTo g u (k + 1) new
 edges_more g u k edges new lu lk are is = subst (AreTurnedTo g u (k + 1)) (sym is) record {
   each = All-push (IsTurnedEdge g) edges (turned_edge g u k) are.each (record { number = k; vertex = lu; edge = lk; is = refl });
   all = λ v j lv lj b. ⊎_elim

@@ -44,7 +44,8 @@ module _ (tasks : List Task) (releases : List Release) where
   line_more : (text text' total rest line : List ℕ) → text' ≡ text ++ line → text ++ (line ++ rest) ≡ total → text' ++ rest ≡ total
   line_more text text' total rest line p q = ap (λ t. t ++ rest) p ∙ append_assoc text line rest ∙ q
 
-  module _ (events : List Event) (next : ℕ) (here : next < length events) (d : Event) (text text' total : List ℕ) (pushed : text' ≡ text ++ written_line (event_line tasks releases (get_or events next d))) where
+  module _ (events : List Event) (next : ℕ) (here : next < length events) (d : Event) (text text' total : List ℕ)
+      (pushed : text' ≡ text ++ written_line (event_line tasks releases (get_or events next d))) where
     split : drop next events ≡ get_or events next d ∷ drop (next + 1) events
     split = drop_more events next d here
 
@@ -57,7 +58,8 @@ module _ (tasks : List Task) (releases : List Release) where
     module _ (time : ℕ) (by : (get_or events next d).time ≤ time) where
       pub until_step : text ++ written (event_lines tasks releases (events_until time (drop next events))) ≡ total
           → text' ++ written (event_lines tasks releases (events_until time (drop (next + 1) events))) ≡ total
-      until_step q = line_more text text' total (written (event_lines tasks releases (events_until time (drop (next + 1) events)))) (written_line (event_line tasks releases (get_or events next d))) pushed
+      until_step q = line_more text text' total (written (event_lines tasks releases (events_until time (drop (next + 1) events))))
+          (written_line (event_line tasks releases (get_or events next d))) pushed
           (subst (λ xs. text ++ written (event_lines tasks releases xs) ≡ total) (ap (events_until time) split ∙ until_more time (get_or events next d) (drop (next + 1) events) by) q)
 
       pub after_step : (rest : List Event) → events_after time (drop next events) ≡ rest → events_after time (drop (next + 1) events) ≡ rest
@@ -106,7 +108,8 @@ module _ (tasks : List Task) (releases : List Release) where
       let line = written_line (span_line tasks releases s) in
       let behind = written (timeline_lines tasks releases (drop (i + 1) spans) rest) in
       let bytes : written (timeline_lines tasks releases (drop i spans) events) ≡ before ++ (line ++ behind)
-      = ap written lines ∙ flat_map-append written_line (event_lines tasks releases (events_until s.start events)) (span_line tasks releases s ∷ timeline_lines tasks releases (drop (i + 1) spans) rest) in
+      = ap written lines ∙ flat_map-append written_line (event_lines tasks releases (events_until s.start events))
+          (span_line tasks releases s ∷ timeline_lines tasks releases (drop (i + 1) spans) rest) in
       line_more text' text'' total behind line q (line_more text text' total (line ++ behind) before p (subst (λ xs. text ++ xs ≡ total) bytes whole))
 
   -- no span is left

@@ -14,14 +14,16 @@ use Rattle.drt_tree.specs.Tree.{HaveOneBound}
 abbrev pub GoTo : {Z : Type 0} → ℕ → List (Arc Request Z) → ℕ → Type 0
 GoTo {Z} bound labels n = (k : ℕ) (l : Arc Request Z) → k < n → slice_get labels k ≡ Some l → length l.value.values ≡ bound
 
-goes_at : {Z : Type 0} (bound : ℕ) (labels : List (Arc Request Z)) (n : ℕ) (x : Arc Request Z) → GoTo bound labels n → slice_get labels n ≡ Some x → length x.value.values ≡ bound → (k : ℕ) (l : Arc Request Z) (old : Bool) → nat_lt k n ≡ old → k < n + 1 → slice_get labels k ≡ Some l → length l.value.values ≡ bound
+goes_at : {Z : Type 0} (bound : ℕ) (labels : List (Arc Request Z)) (n : ℕ) (x : Arc Request Z) → GoTo bound labels n → slice_get labels n ≡ Some x
+    → length x.value.values ≡ bound → (k : ℕ) (l : Arc Request Z) (old : Bool) → nat_lt k n ≡ old → k < n + 1 → slice_get labels k ≡ Some l → length l.value.values ≡ bound
 goes_at bound labels n x h at e k l true t lt al = h k l (grind (arith, nat_tests)) al
 goes_at bound labels n x h at e k l false t lt al =
     let is : k ≡ n = grind (arith, nat_tests) in
     ap (λ (y : Arc Request _). length y.value.values) (same_Some l x (sym al ∙ (ap (λ z. slice_get labels z) is ∙ at))) ∙ e
 
 -- one more label
-pub goes_more : {Z : Type 0} (bound : ℕ) (labels : List (Arc Request Z)) (n : ℕ) (x : Arc Request Z) → GoTo bound labels n → slice_get labels n ≡ Some x → length x.value.values ≡ bound → GoTo bound labels (n + 1)
+pub goes_more : {Z : Type 0} (bound : ℕ) (labels : List (Arc Request Z)) (n : ℕ) (x : Arc Request Z) → GoTo bound labels n → slice_get labels n ≡ Some x
+    → length x.value.values ≡ bound → GoTo bound labels (n + 1)
 goes_more bound labels n x h at e = λ k l lt al. goes_at bound labels n x h at e k l (nat_lt k n) refl lt al
 
 leaves_go : {Z : Type 0} (bound : ℕ) (labels : List (Arc Request Z)) (walks : List (List ℕ)) → GoTo bound labels (length labels) → All (λ (l : Leaf). length l.steps ≡ bound) (leaves_of labels walks)

@@ -25,14 +25,16 @@ front_cmp (x ∷ xs) [] vs ws e = absurd (let h : length xs + 1 ≡ 0 = omega ar
 front_cmp (x ∷ xs) (y ∷ ys) vs ws e =
     ap (λ o. ordering_then (nat_cmp x y) o) (front_cmp xs ys vs ws (omega arith)) ∙ sym (then_assoc (nat_cmp x y) (slice_cmp nat_cmp xs ys) (slice_cmp nat_cmp vs ws))
 
-leaves_suc : {Z : Type 0} (labels : List (Arc Request Z)) (walks : List (List ℕ)) (i : ℕ) (l : Arc Request Z) (w : List ℕ) → slice_get labels i ≡ Some l → slice_get walks i ≡ Some w → leaves_of (take (suc i) labels) (take (suc i) walks) ≡ leaves_of (take i labels) (take i walks) ++ record { steps = l.value.values; walk = w } ∷ []
+leaves_suc : {Z : Type 0} (labels : List (Arc Request Z)) (walks : List (List ℕ)) (i : ℕ) (l : Arc Request Z) (w : List ℕ) → slice_get labels i ≡ Some l
+    → slice_get walks i ≡ Some w → leaves_of (take (suc i) labels) (take (suc i) walks) ≡ leaves_of (take i labels) (take i walks) ++ record { steps = l.value.values; walk = w } ∷ []
 leaves_suc [] walks i l w at at2 = absurd (none-some l at)
 leaves_suc (x ∷ labels) [] i l w at at2 = absurd (none-some w at2)
 leaves_suc (x ∷ labels) (y ∷ walks) zero l w at at2 =
     ap (λ (z : Arc Request _). record { steps = z.value.values; walk = y } ∷ []) (same_Some x l at) ∙ ap (λ z. record { steps = l.value.values; walk = z } ∷ []) (same_Some y w at2)
 leaves_suc (x ∷ labels) (y ∷ walks) (suc i) l w at at2 = ap (λ ls. record { steps = x.value.values; walk = y } ∷ ls) (leaves_suc labels walks i l w at at2)
 
-pub leaves_more : {Z : Type 0} (labels : List (Arc Request Z)) (walks : List (List ℕ)) (i : ℕ) (l : Arc Request Z) (w : List ℕ) → slice_get labels i ≡ Some l → slice_get walks i ≡ Some w → leaves_of (take (i + 1) labels) (take (i + 1) walks) ≡ leaves_of (take i labels) (take i walks) ++ record { steps = l.value.values; walk = w } ∷ []
+pub leaves_more : {Z : Type 0} (labels : List (Arc Request Z)) (walks : List (List ℕ)) (i : ℕ) (l : Arc Request Z) (w : List ℕ) → slice_get labels i ≡ Some l
+    → slice_get walks i ≡ Some w → leaves_of (take (i + 1) labels) (take (i + 1) walks) ≡ leaves_of (take i labels) (take i walks) ++ record { steps = l.value.values; walk = w } ∷ []
 leaves_more labels walks i l w at at2 = ap (λ k. leaves_of (take k labels) (take k walks)) (add-one i) ∙ leaves_suc labels walks i l w at at2
 
 cmp_same : (a b : ℕ) → a ≡ b → nat_cmp a b ≡ Equal

@@ -112,7 +112,8 @@ at_most_right (x ∷ xs) [] i e = absurd (let h : length xs + 1 ≡ 0 = omega ar
 at_most_right (x ∷ xs) (y ∷ ys) zero e = let h : y ≤ max x y = omega arith in h
 at_most_right (x ∷ xs) (y ∷ ys) (suc i) e = at_most_right xs ys i (omega arith)
 
-below_most : (f : Plain) (l r t : ℕ) (b : Bool) → length (node_values_in f l) ≡ length (node_values_in f r) → slice_index (node_values_in f (cond b l r)) (t - 1) ≤ slice_index (max_of (node_values_in f l) (node_values_in f r)) (t - 1)
+below_most : (f : Plain) (l r t : ℕ) (b : Bool) → length (node_values_in f l) ≡ length (node_values_in f r)
+    → slice_index (node_values_in f (cond b l r)) (t - 1) ≤ slice_index (max_of (node_values_in f l) (node_values_in f r)) (t - 1)
 below_most f l r t true e = at_most_left (node_values_in f l) (node_values_in f r) (t - 1) e
 below_most f l r t false e = at_most_right (node_values_in f l) (node_values_in f r) (t - 1) e
 
@@ -154,13 +155,15 @@ pub record Paired (f : Plain) (n l r : ℕ) (g : Plain) : Type 0 where
   pub pool : g.pool ≡ f.pool ++ max_of (node_values_in f l) (node_values_in f r) ∷ []
 
 paired_grows : (f g : Plain) (n l r : ℕ) → Paired f n l r g → Grows f g
-paired_grows f g n l r p = record { more = record { children = Some (l, r); leaves = n; walk = [] } ∷ []; functions = max_of (node_values_in f l) (node_values_in f r) ∷ []; nodes = p.nodes; pool = p.pool }
+paired_grows f g n l r p = record
+    { more = record { children = Some (l, r); leaves = n; walk = [] } ∷ []; functions = max_of (node_values_in f l) (node_values_in f r) ∷ []; nodes = p.nodes; pool = p.pool }
 
 new_node : (f g : Plain) (n l r : ℕ) → Paired f n l r g → slice_get g.nodes (length f.nodes) ≡ Some (record { children = Some (l, r); leaves = n; walk = [] })
 new_node f g n l r p = ap (λ z. slice_get z (length f.nodes)) p.nodes ∙ get_end f.nodes (record { children = Some (l, r); leaves = n; walk = [] })
 
 new_values : (f g : Plain) (n l r : ℕ) → length f.nodes ≡ length f.pool → Paired f n l r g → node_values_in g (length f.nodes) ≡ max_of (node_values_in f l) (node_values_in f r)
-new_values f g n l r e p = ap (λ z. slice_index_or z (length f.nodes) []) p.pool ∙ (ap (λ k. slice_index_or (f.pool ++ max_of (node_values_in f l) (node_values_in f r) ∷ []) k []) e ∙ index_end [] f.pool (max_of (node_values_in f l) (node_values_in f r)))
+new_values f g n l r e p = ap (λ z. slice_index_or z (length f.nodes) []) p.pool
+    ∙ (ap (λ k. slice_index_or (f.pool ++ max_of (node_values_in f l) (node_values_in f r) ∷ []) k []) e ∙ index_end [] f.pool (max_of (node_values_in f l) (node_values_in f r)))
 
 paired_long : (f g : Plain) (n l r : ℕ) → Paired f n l r g → length g.nodes ≡ length f.nodes + 1
 paired_long f g n l r p = ap length p.nodes ∙ length_end f.nodes (record { children = Some (l, r); leaves = n; walk = [] })
@@ -217,7 +220,8 @@ pair_new f g n l r k p wl wr e =
       most = new_values f g n l r s p ∙ (ap (λ z. max_of z (node_values_in f r)) (sym vl) ∙ ap (λ z. max_of (node_values_in g l) z) (sym vr));
     }
 
-paired_pair : (f g : Plain) (n l r : ℕ) → IsForest f → Paired f n l r g → l < length f.nodes → r < length f.nodes → n ≡ leaves f l + leaves f r → (m l2 r2 : ℕ) (old : Bool) → ltb m (length f.nodes) ≡ old → children g m ≡ Some (l2, r2) → IsPair g m l2 r2
+paired_pair : (f g : Plain) (n l r : ℕ) → IsForest f → Paired f n l r g → l < length f.nodes → r < length f.nodes → n ≡ leaves f l + leaves f r
+    → (m l2 r2 : ℕ) (old : Bool) → ltb m (length f.nodes) ≡ old → children g m ≡ Some (l2, r2) → IsPair g m l2 r2
 paired_pair f g n l r k p wl wr e m l2 r2 true t h =
     let a : Grows f g = paired_grows f g n l r p in
     let w : m < length f.nodes = grind (arith, nat_tests) in
@@ -255,7 +259,8 @@ paired_ones f g n l r k p m true t h =
     leaves_stay f g m a w ∙ k.ones m (sym (children_stay f g m a w) ∙ h)
 paired_ones f g n l r k p m false t h = paired_ones_past f g n l r p m (ltb m (length g.nodes)) refl (grind (arith, nat_tests)) h
 
-paired_bound : (f g : Plain) (n l r : ℕ) → IsForest f → Paired f n l r g → l < length f.nodes → r < length f.nodes → (m : ℕ) (old : Bool) → ltb m (length f.pool) ≡ old → m < length g.pool → length (node_values_in g m) ≡ length (node_values_in f l)
+paired_bound : (f g : Plain) (n l r : ℕ) → IsForest f → Paired f n l r g → l < length f.nodes → r < length f.nodes → (m : ℕ) (old : Bool) → ltb m (length f.pool) ≡ old
+    → m < length g.pool → length (node_values_in g m) ≡ length (node_values_in f l)
 paired_bound f g n l r k p wl wr m true t w =
     let a : Grows f g = paired_grows f g n l r p in
     let s : length f.nodes ≡ length f.pool = k.same in
@@ -324,7 +329,8 @@ paired_forest f g n l r k p wl wr e apart =
     }
 
 -- two trees and their pair are a tree
-pub built_two : (f a b g : Plain) (low count half rest l r : ℕ) → half + rest ≡ count → rest ≤ half → half ≤ rest + 1 → Grows f a → IsBuilt f a low half l → Grows a b → IsBuilt a b (low + half) rest r → Paired b count l r g → IsBuilt f g low count (length b.nodes)
+pub built_two : (f a b g : Plain) (low count half rest l r : ℕ) → half + rest ≡ count → rest ≤ half → half ≤ rest + 1 → Grows f a → IsBuilt f a low half l → Grows a b
+    → IsBuilt a b (low + half) rest r → Paired b count l r g → IsBuilt f g low count (length b.nodes)
 built_two f a b g low count half rest l r sum le ge ga ba gb bb p =
     let gg : Grows b g = paired_grows b g count l r p in
     let ab : length a.nodes ≤ length b.nodes = grows_long a b gb in
@@ -345,14 +351,16 @@ built_two f a b g low count half rest l r sum le ge ga ba gb bb p =
     let right : Stands g bb.shape (low + half) (length a.nodes) = stands_on b g bb.shape (low + half) (length a.nodes) gg bb.stands in
     let right2 : Stands g bb.shape (low + parts ba.shape) (length a.nodes) = subst (λ (z : ℕ). Stands g bb.shape z (length a.nodes)) second right in
     let right3 : Stands g bb.shape (low + parts ba.shape) (length f.nodes + pairs ba.shape) = subst (λ (z : ℕ). Stands g bb.shape (low + parts ba.shape) z) first right2 in
-    let rr : r ≡ root_of bb.shape (low + parts ba.shape) (length f.nodes + pairs ba.shape) = bb.root_is ∙ (ap (λ z. root_of bb.shape z (length a.nodes)) second ∙ ap (λ z. root_of bb.shape (low + parts ba.shape) z) first) in
+    let rr : r ≡ root_of bb.shape (low + parts ba.shape) (length f.nodes + pairs ba.shape) = bb.root_is
+        ∙ (ap (λ z. root_of bb.shape z (length a.nodes)) second ∙ ap (λ z. root_of bb.shape (low + parts ba.shape) z) first) in
     let left1 : Stands b ba.shape low (length f.nodes) = stands_on a b ba.shape low (length f.nodes) gb ba.stands in
     let right1 : Stands b bb.shape (low + parts ba.shape) (length a.nodes) = subst (λ (z : ℕ). Stands b bb.shape z (length a.nodes)) second bb.stands in
     let rr1 : r ≡ root_of bb.shape (low + parts ba.shape) (length a.nodes) = bb.root_is ∙ ap (λ z. root_of bb.shape z (length a.nodes)) second in
     let apart : (leaf : ℕ) → IsUnder b leaf l → ¬ IsUnder b leaf r = λ leaf under other. roots_apart b ba.shape bb.shape low (length f.nodes) (length a.nodes) leaf left1 right1
     (subst (λ (z : ℕ). IsUnder b leaf z) ba.root_is under) (subst (λ (z : ℕ). IsUnder b leaf z) rr1 other) in
     let kids : children g (length b.nodes) ≡ Some (l, r) = ap node_children (new_node b g count l r p) in
-    let kids2 : children g (length f.nodes + pairs ba.shape + pairs bb.shape) ≡ Some (root_of ba.shape low (length f.nodes), root_of bb.shape (low + parts ba.shape) (length f.nodes + pairs ba.shape)) =
+    let kids2 : children g (length f.nodes + pairs ba.shape + pairs bb.shape) ≡ Some
+        (root_of ba.shape low (length f.nodes), root_of bb.shape (low + parts ba.shape) (length f.nodes + pairs ba.shape)) =
     ap (λ z. children g z) (sym root) ∙ (kids ∙ (ap (λ z. Some (z, r)) ba.root_is ∙ ap (λ z. Some (root_of ba.shape low (length f.nodes), z)) rr)) in
     record {
       forest = paired_forest b g count l r bb.forest p (omega arith) rw (omega arith) apart;
@@ -369,7 +377,8 @@ built_two f a b g low count half rest l r sum le ge ga ba gb bb p =
 -- leaves behind the nodes
 get_past : {A : Type 0} (xs ys : List A) (k : ℕ) → slice_get (xs ++ ys) (length xs + k) ≡ slice_get ys k
 get_past [] ys k = ap (λ z. slice_get ys z) (let e : 0 + k ≡ k = omega arith in e)
-get_past (x ∷ xs) ys k = ap (λ z. slice_get (x ∷ (xs ++ ys)) z) (let e : length xs + 1 + k ≡ suc (length xs + k) = omega arith in let f : length (x ∷ xs) + k ≡ suc (length xs + k) = omega arith in f) ∙ get_past xs ys k
+get_past (x ∷ xs) ys k = ap (λ z. slice_get (x ∷ (xs ++ ys)) z) (let e : length xs + 1 + k ≡ suc (length xs + k) = omega arith in
+    let f : length (x ∷ xs) + k ≡ suc (length xs + k) = omega arith in f) ∙ get_past xs ys k
 
 leaf_children : (ls : List Leaf) (k : ℕ) → node_children (slice_get (map leaf_node ls) k) ≡ None
 leaf_children [] k = refl
@@ -382,7 +391,8 @@ leaf_ones (l ∷ ls) zero = refl
 leaf_ones (l ∷ ls) (suc k) = leaf_ones ls k
 
 past_node : (f : Plain) (ls : List Leaf) (n : ℕ) → length f.nodes ≤ n → slice_get (with_leaves f ls).nodes n ≡ slice_get (map leaf_node ls) (n - length f.nodes)
-past_node f ls n le = ap (λ z. slice_get (f.nodes ++ map leaf_node ls) z) (let e : n ≡ length f.nodes + (n - length f.nodes) = omega arith in e) ∙ get_past f.nodes (map leaf_node ls) (n - length f.nodes)
+past_node f ls n le = ap (λ z. slice_get (f.nodes ++ map leaf_node ls) z) (let e : n ≡ length f.nodes + (n - length f.nodes) = omega arith in e)
+    ∙ get_past f.nodes (map leaf_node ls) (n - length f.nodes)
 
 pub leaves_grow : (f : Plain) (ls : List Leaf) → Grows f (with_leaves f ls)
 leaves_grow f ls = record { more = map leaf_node ls; functions = map leaf_steps ls; nodes = refl; pool = refl }
@@ -432,7 +442,8 @@ long_leaves xs ys ls e =
 
 pub with_forest : (f : Plain) (ls : List Leaf) → IsForest f → HaveOneBound f.pool ls → IsForest (with_leaves f ls)
 with_forest f ls k h =
-    let all : All (λ (xs : List ℕ). length xs ≡ h.0) (f.pool ++ map leaf_steps ls) = All-append (λ (xs : List ℕ). length xs ≡ h.0) f.pool (map leaf_steps ls) h.1 (All-map (λ (xs : List ℕ). length xs ≡ h.0) leaf_steps ls h.2) in
+    let all : All (λ (xs : List ℕ). length xs ≡ h.0) (f.pool ++ map leaf_steps ls) = All-append (λ (xs : List ℕ). length xs ≡ h.0) f.pool (map leaf_steps ls) h.1
+        (All-map (λ (xs : List ℕ). length xs ≡ h.0) leaf_steps ls h.2) in
     record {
       same = long_leaves f.nodes f.pool ls k.same;
       pairs = λ n l r e. with_pair f ls k n l r (ltb n (length f.nodes)) refl e;
@@ -462,7 +473,8 @@ if_ok_more P Q (Err e) f h = h
 pub plain_is : (nodes nodes2 : List Node) (pool pool2 : List (List ℕ)) → nodes ≡ nodes2 → pool ≡ pool2 → plain nodes pool ≡ plain nodes2 pool2
 plain_is nodes nodes2 pool pool2 a b = ap (λ z. plain z pool) a ∙ ap (λ z. plain nodes2 z) b
 
-pub added : (f p g : Plain) (ls sorted : List Leaf) (low count root : ℕ) → p ≡ with_leaves f sorted → IsPermutation ls sorted → IsSortedBy is_leaf_before sorted → low ≡ length f.nodes → count ≡ length ls → Grows p g → IsBuilt p g low count root → IsTreeAdded f g ls root
+pub added : (f p g : Plain) (ls sorted : List Leaf) (low count root : ℕ) → p ≡ with_leaves f sorted → IsPermutation ls sorted → IsSortedBy is_leaf_before sorted
+    → low ≡ length f.nodes → count ≡ length ls → Grows p g → IsBuilt p g low count root → IsTreeAdded f g ls root
 added f p g ls sorted low count root e perm order el ec gr b =
     let b1 : IsBuilt (with_leaves f sorted) g low count root = subst (λ (z : Plain). IsBuilt z g low count root) e b in
     let b2 : IsBuilt (with_leaves f sorted) g (length f.nodes) count root = subst (λ (z : ℕ). IsBuilt (with_leaves f sorted) g z count root) el b1 in

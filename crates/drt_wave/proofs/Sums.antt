@@ -67,7 +67,8 @@ module _ {A : Type 0} (g : A → ℕ) where
       (λ nle. let t = greatest_at xs (omega arith) in (suc t.0, t.1, t.2, omega (arith, t.3)))
 
 -- where one has the whole of f, and g is 0 where f is, one has the whole of g
-pub total-one : {A : Type 0} (f g : A → ℕ) (l : List A) (j : ℕ) (v : A) → get_elem? l j ≡ some v → total_by f l ≡ f v → ((i : ℕ) (u : A) → get_elem? l i ≡ some u → f u ≡ 0 → g u ≡ 0) → total_by g l ≡ g v
+pub total-one : {A : Type 0} (f g : A → ℕ) (l : List A) (j : ℕ) (v : A) → get_elem? l j ≡ some v → total_by f l ≡ f v
+    → ((i : ℕ) (u : A) → get_elem? l i ≡ some u → f u ≡ 0 → g u ≡ 0) → total_by g l ≡ g v
 total-one f g [] j v e whole h = absurd (some-ne-none v (sym e))
 total-one f g (x ∷ xs) zero v e whole h =
     let nothing : total_by f xs ≡ 0 = omega (arith, ap f (some-injective x v e)) in

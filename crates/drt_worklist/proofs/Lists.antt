@@ -66,7 +66,8 @@ found_rest p x xs k (Some i) rest g =
     let f : Found p xs i = rest i refl in
     subst (λ (m : ℕ). Found p (x ∷ xs) m) (same_Some (suc i) k g) (record { item = f.item; at = f.at; passes = f.passes })
 
-found_head : {A : Type 0} (p : A → Bool) (x : A) (xs : List A) (k : ℕ) (b : Bool) → p x ≡ b → ((i : ℕ) → first p xs ≡ Some i → Found p xs i) → cond b (Some 0) (option_map suc (first p xs)) ≡ Some k → Found p (x ∷ xs) k
+found_head : {A : Type 0} (p : A → Bool) (x : A) (xs : List A) (k : ℕ) (b : Bool) → p x ≡ b → ((i : ℕ) → first p xs ≡ Some i → Found p xs i)
+    → cond b (Some 0) (option_map suc (first p xs)) ≡ Some k → Found p (x ∷ xs) k
 found_head p x xs k true e rest g = subst (λ (m : ℕ). Found p (x ∷ xs) m) (same_Some 0 k g) (record { item = x; at = refl; passes = e })
 found_head p x xs k false e rest g = found_rest p x xs k (first p xs) rest g
 
@@ -78,7 +79,8 @@ rest_none : (o : Option ℕ) → option_map suc o ≡ None → o ≡ None
 rest_none None e = refl
 rest_none (Some i) e = cc
 
-none_found_head : {A : Type 0} (p : A → Bool) (y : A) (xs : List A) (b : Bool) → p y ≡ b → (first p xs ≡ None → (k : ℕ) (x : A) → slice_get xs k ≡ Some x → p x ≡ false) → cond b (Some 0) (option_map suc (first p xs)) ≡ None → (k : ℕ) (x : A) → slice_get (y ∷ xs) k ≡ Some x → p x ≡ false
+none_found_head : {A : Type 0} (p : A → Bool) (y : A) (xs : List A) (b : Bool) → p y ≡ b → (first p xs ≡ None → (k : ℕ) (x : A) → slice_get xs k ≡ Some x → p x ≡ false)
+    → cond b (Some 0) (option_map suc (first p xs)) ≡ None → (k : ℕ) (x : A) → slice_get (y ∷ xs) k ≡ Some x → p x ≡ false
 none_found_head p y xs true e rest h k x g = cc
 none_found_head p y xs false e rest h zero x g = subst (λ z. p z ≡ false) (same_Some y x g) e
 none_found_head p y xs false e rest h (suc k) x g = rest (rest_none (first p xs) h) k x g
@@ -88,7 +90,8 @@ none_found p [] h k x g = absurd (none-some x g)
 none_found p (y ∷ xs) h k x g = none_found_head p y xs (p y) refl (none_found p xs) h k x g
 
 -- the first place that passes, from what a search saw
-pub first_is : {A : Type 0} (p : A → Bool) (xs : List A) (i : ℕ) (x : A) → slice_get xs i ≡ Some x → p x ≡ true → ((k : ℕ) (y : A) → k < i → slice_get xs k ≡ Some y → p y ≡ false) → Some i ≡ first p xs
+pub first_is : {A : Type 0} (p : A → Bool) (xs : List A) (i : ℕ) (x : A) → slice_get xs i ≡ Some x → p x ≡ true
+    → ((k : ℕ) (y : A) → k < i → slice_get xs k ≡ Some y → p y ≡ false) → Some i ≡ first p xs
 first_is p [] i x at passed below = absurd (none-some x at)
 first_is p (z ∷ xs) zero x at passed below = ap (λ b. cond b (Some 0) (option_map suc (first p xs))) (sym (ap p (same_Some z x at) ∙ passed))
 first_is p (z ∷ xs) (suc i) x at passed below =
@@ -101,8 +104,10 @@ first_none p (z ∷ xs) below =
     ap (λ o. option_map suc o) (first_none p xs (λ k y lt h. below (suc k) y (omega arith) h))
     ∙ ap (λ b. cond b (Some 0) (option_map suc (first p xs))) (sym (below 0 z (omega arith) refl))
 
-pub fails_more : {A : Type 0} (p : A → Bool) (xs : List A) (i : ℕ) (x : A) → slice_get xs i ≡ Some x → p x ≡ false → ((k : ℕ) (y : A) → k < i → slice_get xs k ≡ Some y → p y ≡ false) → (k : ℕ) (y : A) → k < i + 1 → slice_get xs k ≡ Some y → p y ≡ false
-fails_more p xs i x at failed below k y lt h = elim (cases_le k i lt) as (λ _. p y ≡ false) [ inl less ↦ below k y less h | inr e ↦ subst (λ z. p z ≡ false) (same_Some x y (sym at ∙ (ap (λ j. slice_get xs j) (sym e) ∙ h))) failed ]
+pub fails_more : {A : Type 0} (p : A → Bool) (xs : List A) (i : ℕ) (x : A) → slice_get xs i ≡ Some x → p x ≡ false
+    → ((k : ℕ) (y : A) → k < i → slice_get xs k ≡ Some y → p y ≡ false) → (k : ℕ) (y : A) → k < i + 1 → slice_get xs k ≡ Some y → p y ≡ false
+fails_more p xs i x at failed below k y lt h = elim (cases_le k i lt) as (λ _. p y ≡ false)
+    [ inl less ↦ below k y less h | inr e ↦ subst (λ z. p z ≡ false) (same_Some x y (sym at ∙ (ap (λ j. slice_get xs j) (sym e) ∙ h))) failed ]
   where
     cases_le : (k i : ℕ) → k < i + 1 → (k < i) ⊎ (k ≡ i)
     cases_le k i lt = grind arith

@@ -15,7 +15,8 @@ unshifted None = refl
 unshifted (Some k) = ap (λ n. Some n) (zero-add k)
 
 module _ {A : Type 0} (p : A → Bool) where
-  head_by : (i : ℕ) (x : A) (xs : List A) (b : Bool) → slice_get (places_from (suc i) p xs) 0 ≡ option_map (λ k. suc i + k) (first p xs) → slice_get (cond b (i ∷ places_from (suc i) p xs) (places_from (suc i) p xs)) 0 ≡ option_map (λ k. i + k) (cond b (Some 0) (option_map suc (first p xs)))
+  head_by : (i : ℕ) (x : A) (xs : List A) (b : Bool) → slice_get (places_from (suc i) p xs) 0 ≡ option_map (λ k. suc i + k) (first p xs)
+      → slice_get (cond b (i ∷ places_from (suc i) p xs) (places_from (suc i) p xs)) 0 ≡ option_map (λ k. i + k) (cond b (Some 0) (option_map suc (first p xs)))
   head_by i x xs true h = ap (λ n. Some n) (let e : i ≡ i + 0 = omega arith in e)
   head_by i x xs false h = h ∙ shifted i (first p xs)
 
@@ -37,14 +38,16 @@ module _ {A : Type 0} (p : A → Bool) where
   taken_by i n true ps qs h = ap (λ l. i ∷ l) (h ∙ ap (λ m. qs ++ m ∷ []) (let e : suc i + n ≡ i + suc n = omega arith in e))
   taken_by i n false ps qs h = h ∙ ap (λ m. qs ++ m ∷ []) (let e : suc i + n ≡ i + suc n = omega arith in e)
 
-  taken_from : (i n : ℕ) (xs : List A) (y : A) → n < length xs → p y ≡ true → ((k : ℕ) (x : A) → n ≤ k → slice_get xs k ≡ Some x → p x ≡ false) → places_from i p (set xs n y) ≡ places_from i p xs ++ (i + n) ∷ []
+  taken_from : (i n : ℕ) (xs : List A) (y : A) → n < length xs → p y ≡ true → ((k : ℕ) (x : A) → n ≤ k → slice_get xs k ≡ Some x → p x ≡ false)
+      → places_from i p (set xs n y) ≡ places_from i p xs ++ (i + n) ∷ []
   taken_from i n [] y lt e none = absurd (let h : n < 0 = lt in omega arith)
   taken_from i zero (x ∷ xs) y lt e none =
       let rest : places_from (suc i) p xs ≡ [] = none_from (suc i) xs (λ k z at. none (suc k) z (omega arith) at) in
       ap (λ b. cond b (i ∷ places_from (suc i) p xs) (places_from (suc i) p xs)) e
       ∙ (ap (λ l. i ∷ l) rest ∙ (ap (λ m. m ∷ []) (let g : i ≡ i + 0 = omega arith in g)
       ∙ ap (λ l. l ++ (i + 0) ∷ []) (sym (ap (λ b. cond b (i ∷ places_from (suc i) p xs) (places_from (suc i) p xs)) (none 0 x (omega arith) refl) ∙ rest))))
-  taken_from i (suc n) (x ∷ xs) y lt e none = taken_by i n (p x) (places_from (suc i) p (set xs n y)) (places_from (suc i) p xs) (taken_from (suc i) n xs y (omega arith) e (λ k z le at. none (suc k) z (omega arith) at))
+  taken_from i (suc n) (x ∷ xs) y lt e none = taken_by i n (p x) (places_from (suc i) p (set xs n y)) (places_from (suc i) p xs)
+      (taken_from (suc i) n xs y (omega arith) e (λ k z le at. none (suc k) z (omega arith) at))
 
   pub places_taken : (xs : List A) (n : ℕ) (y : A) → n < length xs → p y ≡ true → ((k : ℕ) (x : A) → n ≤ k → slice_get xs k ≡ Some x → p x ≡ false) → places p (set xs n y) ≡ places p xs ++ n ∷ []
   places_taken xs n y lt e none = taken_from 0 n xs y lt e none ∙ ap (λ m. places p xs ++ m ∷ []) (zero-add n)
@@ -64,7 +67,8 @@ module _ {A : Type 0} (p : A → Bool) where
   drop_here false i ps h = sym h
 
   drop_by : (b : Bool) (i m : ℕ) (ps qs : List ℕ) → i < m → ps ≡ filter (λ k. not (k == m)) qs → cond b (i ∷ ps) ps ≡ filter (λ k. not (k == m)) (cond b (i ∷ qs) qs)
-  drop_by true i m ps qs lt h = ap (λ l. i ∷ l) h ∙ sym (ap (λ c. cond c (i ∷ filter (λ k. not (k == m)) qs) (filter (λ k. not (k == m)) qs)) (let e : (not (i == m)) ≡ true = grind (arith, nat_tests) in e))
+  drop_by true i m ps qs lt h = ap (λ l. i ∷ l) h
+      ∙ sym (ap (λ c. cond c (i ∷ filter (λ k. not (k == m)) qs) (filter (λ k. not (k == m)) qs)) (let e : (not (i == m)) ≡ true = grind (arith, nat_tests) in e))
   drop_by false i m ps qs lt h = h
 
   dropped_from : (i n : ℕ) (xs : List A) (y : A) → p y ≡ false → places_from i p (set xs n y) ≡ filter (λ k. not (k == i + n)) (places_from i p xs)
@@ -89,7 +93,8 @@ module _ {A : Type 0} (p : A → Bool) where
   fewer_from i n [] x y at e f = absurd (none-some x at)
   fewer_from i zero (z ∷ xs) x y at e f =
       ap (λ b. length (cond b (i ∷ places_from (suc i) p xs) (places_from (suc i) p xs)) + 1) f
-      ∙ sym (ap (λ b. length (cond b (i ∷ places_from (suc i) p xs) (places_from (suc i) p xs))) (ap p (same_Some z x at) ∙ e) ∙ (let g : suc (length (places_from (suc i) p xs)) ≡ length (places_from (suc i) p xs) + 1 = omega arith in g))
+      ∙ sym (ap (λ b. length (cond b (i ∷ places_from (suc i) p xs) (places_from (suc i) p xs))) (ap p (same_Some z x at) ∙ e)
+          ∙ (let g : suc (length (places_from (suc i) p xs)) ≡ length (places_from (suc i) p xs) + 1 = omega arith in g))
   fewer_from i (suc n) (z ∷ xs) x y at e f = fewer_by (p z) i (places_from (suc i) p (set xs n y)) (places_from (suc i) p xs) (fewer_from (suc i) n xs x y at e f)
 
   pub places_fewer : (xs : List A) (n : ℕ) (x y : A) → slice_get xs n ≡ Some x → p x ≡ true → p y ≡ false → length (places p (set xs n y)) + 1 ≡ length (places p xs)
@@ -149,11 +154,15 @@ pub record IsPlaceOf {A : Type 0} (i : ℕ) (p : A → Bool) (xs : List A) (m : 
 
 module _ {A : Type 0} (p : A → Bool) where
   placed_head : (i : ℕ) (x : A) (xs : List A) (b : Bool) → p x ≡ b → b ≡ true → Placed i p (x ∷ xs) 0
-  placed_head i x xs b e t = record { place = 0; at = ap (λ c. slice_get (cond c (i ∷ places_from (suc i) p xs) (places_from (suc i) p xs)) 0) (e ∙ t) ∙ ap (λ n. Some n) (let g : i ≡ i + 0 = omega arith in g) }
+  placed_head i x xs b e t = record { place = 0; at = ap (λ c. slice_get (cond c (i ∷ places_from (suc i) p xs) (places_from (suc i) p xs)) 0) (e ∙ t)
+      ∙ ap (λ n. Some n) (let g : i ≡ i + 0 = omega arith in g) }
 
   placed_next : (i k : ℕ) (x : A) (xs : List A) (b : Bool) → p x ≡ b → Placed (suc i) p xs k → Placed i p (x ∷ xs) (suc k)
-  placed_next i k x xs true e h = record { place = suc h.place; at = ap (λ c. slice_get (cond c (i ∷ places_from (suc i) p xs) (places_from (suc i) p xs)) (suc h.place)) e ∙ (h.at ∙ ap (λ n. Some n) (let g : suc i + k ≡ i + suc k = omega arith in g)) }
-  placed_next i k x xs false e h = record { place = h.place; at = ap (λ c. slice_get (cond c (i ∷ places_from (suc i) p xs) (places_from (suc i) p xs)) h.place) e ∙ (h.at ∙ ap (λ n. Some n) (let g : suc i + k ≡ i + suc k = omega arith in g)) }
+  placed_next i k x xs true e h = record
+      { place = suc h.place; at = ap (λ c. slice_get (cond c (i ∷ places_from (suc i) p xs) (places_from (suc i) p xs)) (suc h.place)) e
+      ∙ (h.at ∙ ap (λ n. Some n) (let g : suc i + k ≡ i + suc k = omega arith in g)) }
+  placed_next i k x xs false e h = record { place = h.place; at = ap (λ c. slice_get (cond c (i ∷ places_from (suc i) p xs) (places_from (suc i) p xs)) h.place) e
+      ∙ (h.at ∙ ap (λ n. Some n) (let g : suc i + k ≡ i + suc k = omega arith in g)) }
 
   pub placed : (i : ℕ) (xs : List A) (k : ℕ) (x : A) → slice_get xs k ≡ Some x → p x ≡ true → Placed i p xs k
   placed i [] k x at e = absurd (none-some x at)
@@ -163,7 +172,8 @@ module _ {A : Type 0} (p : A → Bool) where
   up : (i : ℕ) (x : A) (xs : List A) (m : ℕ) → IsPlaceOf (suc i) p xs m → IsPlaceOf i p (x ∷ xs) m
   up i x xs m h = record { number = suc h.number; item = h.item; is = h.is ∙ (let g : suc i + h.number ≡ i + suc h.number = omega arith in g); at = h.at; passes = h.passes }
 
-  place_by : (i : ℕ) (x : A) (xs : List A) (b : Bool) → p x ≡ b → ((j m : ℕ) → slice_get (places_from (suc i) p xs) j ≡ Some m → IsPlaceOf (suc i) p xs m) → (j m : ℕ) → slice_get (cond b (i ∷ places_from (suc i) p xs) (places_from (suc i) p xs)) j ≡ Some m → IsPlaceOf i p (x ∷ xs) m
+  place_by : (i : ℕ) (x : A) (xs : List A) (b : Bool) → p x ≡ b → ((j m : ℕ) → slice_get (places_from (suc i) p xs) j ≡ Some m → IsPlaceOf (suc i) p xs m) → (j m : ℕ)
+      → slice_get (cond b (i ∷ places_from (suc i) p xs) (places_from (suc i) p xs)) j ≡ Some m → IsPlaceOf i p (x ∷ xs) m
   place_by i x xs true e rest zero m at = record { number = 0; item = x; is = sym (same_Some i m at) ∙ (let g : i ≡ i + 0 = omega arith in g); at = refl; passes = e }
   place_by i x xs true e rest (suc j) m at = up i x xs m (rest j m at)
   place_by i x xs false e rest j m at = up i x xs m (rest j m at)
@@ -172,7 +182,10 @@ module _ {A : Type 0} (p : A → Bool) where
   place_is i [] j m at = absurd (none-some m at)
   place_is i (x ∷ xs) j m at = place_by i x xs (p x) refl (place_is (suc i) xs) j m at
 
-  order_by : (i : ℕ) (xs : List A) (b : Bool) → ((a c m n : ℕ) → a < c → slice_get (places_from (suc i) p xs) a ≡ Some m → slice_get (places_from (suc i) p xs) c ≡ Some n → m < n) → (a c m n : ℕ) → a < c → slice_get (cond b (i ∷ places_from (suc i) p xs) (places_from (suc i) p xs)) a ≡ Some m → slice_get (cond b (i ∷ places_from (suc i) p xs) (places_from (suc i) p xs)) c ≡ Some n → m < n
+  order_by : (i : ℕ) (xs : List A) (b : Bool)
+      → ((a c m n : ℕ) → a < c → slice_get (places_from (suc i) p xs) a ≡ Some m → slice_get (places_from (suc i) p xs) c ≡ Some n → m < n) → (a c m n : ℕ) → a < c
+      → slice_get (cond b (i ∷ places_from (suc i) p xs) (places_from (suc i) p xs)) a ≡ Some m
+      → slice_get (cond b (i ∷ places_from (suc i) p xs) (places_from (suc i) p xs)) c ≡ Some n → m < n
   order_by i xs true rest a zero m n lt f g = absurd (omega arith)
   order_by i xs true rest zero (suc c) m n lt f g =
       let h : IsPlaceOf (suc i) p xs n = place_is (suc i) xs c n g in

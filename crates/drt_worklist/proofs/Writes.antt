@@ -13,7 +13,8 @@ set_at (z ∷ xs) zero y zero x at = inl (refl, sym (same_Some y x at))
 set_at (z ∷ xs) zero y (suc k) x at = inr ((λ e. absurd (omega arith)), at)
 set_at (z ∷ xs) (suc i) y zero x at = inr ((λ e. absurd (omega arith)), at)
 set_at (z ∷ xs) (suc i) y (suc k) x at =
-    elim (set_at xs i y k x at) as (λ _. ((suc k ≡ suc i) × (x ≡ y)) ⊎ ((suc k ≡ suc i → ⊥) × (slice_get xs k ≡ Some x))) [ inl p ↦ inl (ap suc p.0, p.1) | inr q ↦ inr ((λ e. q.0 (omega arith)), q.1) ]
+    elim (set_at xs i y k x at) as (λ _. ((suc k ≡ suc i) × (x ≡ y)) ⊎ ((suc k ≡ suc i → ⊥) × (slice_get xs k ≡ Some x)))
+        [ inl p ↦ inl (ap suc p.0, p.1) | inr q ↦ inr ((λ e. q.0 (omega arith)), q.1) ]
 
 pub set_here : {A : Type 0} (xs : List A) (i : ℕ) (y : A) → i < length xs → slice_get (set xs i y) i ≡ Some y
 set_here [] i y lt = absurd (let h : i < 0 = lt in omega arith)
@@ -40,7 +41,8 @@ module _ {A : Type 0} (p : A → Bool) where
 
   -- a write that p sees, where it saw none before
   pub first_new : (xs : List A) (i : ℕ) (y : A) → i < length xs → first p xs ≡ None → p y ≡ true → Some i ≡ first p (set xs i y)
-  first_new xs i y lt none e = first_is p (set xs i y) i y (set_here xs i y lt) e (λ k x less at. elim (set_at xs i y k x at) as (λ _. p x ≡ false) [ inl h ↦ absurd (let g : k ≡ i = h.0 in omega arith) | inr h ↦ none_found p xs none k x h.1 ])
+  first_new xs i y lt none e = first_is p (set xs i y) i y (set_here xs i y lt) e
+      (λ k x less at. elim (set_at xs i y k x at) as (λ _. p x ≡ false) [ inl h ↦ absurd (let g : k ≡ i = h.0 in omega arith) | inr h ↦ none_found p xs none k x h.1 ])
 
   -- a push that p doesn't see
   pub first_more : (xs : List A) (y : A) → p y ≡ false → first p (xs ++ y ∷ []) ≡ first p xs

@@ -113,7 +113,8 @@ module _ (s : Search) (roots : List ℕ) where
       e.dealt tuple i p there (subst (λ (x : List ℕ). AreBelow s.forest tuple x) (sym is) below)
 
   -- once all passes are done, the greatest value that was raised is the greatest least time
-  pub settles : IsSearchReady s roots → (P : ℕ → Type 0) (word best : ℕ) (leaves : List ℕ) (v : View) (ps : List Pass) (dealt : List (List ℕ)) → IsWordClosed P word v → IsGreatestRaised s roots best leaves v
+  pub settles : IsSearchReady s roots → (P : ℕ → Type 0) (word best : ℕ) (leaves : List ℕ) (v : View) (ps : List Pass) (dealt : List (List ℕ)) → IsWordClosed P word v
+      → IsGreatestRaised s roots best leaves v
       → AreDealt s.forest roots dealt → ((i : ℕ) (c : List ℕ) → slice_get dealt i ≡ Some c → (p : Pass) × (slice_get ps i ≡ Some p) × (p.start ≡ c))
       → ((i : ℕ) (p : Pass) → slice_get ps i ≡ Some p → HasRun s roots p × (p.stack.items ≡ []) × IsNotedIn p.known v) → IsGreatest s roots best leaves
   settles ready P word best leaves v ps dealt c b d from each =

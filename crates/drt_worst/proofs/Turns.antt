@@ -95,7 +95,8 @@ module _ (s : Search) (roots : List ℕ) where
         told = IfSome_then q.taken.told (f.told (map combination_of r.entries) r.told) (λ v same. map_end r.entries e ∙ same);
         known = more.2 ∙ sym f.known;
         noted = subst (λ (n : ℕ). IsNotedIn n q.seat.me.0) (sym f.known) (subst (λ (v : View). IsNotedIn (known seen choice) v) (sym f.view) (noted_by p.seat.me.0 seen choice));
-        best = subst (λ (v : View). IsGreatestRaised s roots q.best q.leaves v) (sym f.view) (subst (λ (n : ℕ). IsGreatestRaised s roots n q.leaves (announced (with_noted p.seat.me.0 seen) choice)) (sym f.best)
+        best = subst (λ (v : View). IsGreatestRaised s roots q.best q.leaves v) (sym f.view)
+            (subst (λ (n : ℕ). IsGreatestRaised s roots n q.leaves (announced (with_noted p.seat.me.0 seen) choice)) (sym f.best)
             (subst (λ (l : List ℕ). IsGreatestRaised s roots (best_after p.best choice) l (announced (with_noted p.seat.me.0 seen) choice)) (sym f.leaves)
             (best_by p.seat.me.0 combination p.leaves p.best seen choice fits part a r.best)));
       }

@@ -60,7 +60,8 @@ opening_priority s = if s.version == 1 then Some (narrow (task_count s + 1)) els
 
 -- After a line `task NAME`, whose number is n.
 unfoldable pub after_task : ℕ → State → List ℕ → State
-after_task n s name = record { version = s.version; closed = all_drafts s; current = Some (record { name = name; line = n; priority = opening_priority s; vertices = []; edges = [] }); ended = s.ended }
+after_task n s name = record
+    { version = s.version; closed = all_drafts s; current = Some (record { name = name; line = n; priority = opening_priority s; vertices = []; edges = [] }); ended = s.ended }
 
 -- The task with one vertex more.
 unfoldable pub with_vertex : Vertex → Draft → Draft
@@ -68,7 +69,9 @@ with_vertex v d = record { name = d.name; line = d.line; priority = d.priority; 
 
 -- The task with one edge more, whose ends are the places of these names.
 unfoldable pub with_edge : List ℕ → List ℕ → ℕ → Draft → Draft
-with_edge from to sep d = record { name = d.name; line = d.line; priority = d.priority; vertices = d.vertices; edges = d.edges ++ record { from = narrow (place_of_name from d.vertices); to = narrow (place_of_name to d.vertices); sep = sep } ∷ [] }
+with_edge from to sep d = record
+    { name = d.name; line = d.line; priority = d.priority; vertices = d.vertices; edges = d.edges ++ record
+    { from = narrow (place_of_name from d.vertices); to = narrow (place_of_name to d.vertices); sep = sep } ∷ [] }
 
 -- The task with this priority.
 unfoldable pub with_priority : ℕ → Draft → Draft

@@ -33,8 +33,10 @@ SaysPriority words n = (number : List ℕ) × (words ≡ priority_word ∷ numbe
 -- line, the last one last. An edge names vertices that stand above it, and no line follows another with a second priority.
 pub data Says : List (List (List ℕ)) → List Vertex → List Edge → Option ℕ → Type 0 where
   nothing : Says [] [] [] None
-  vertex : (body : List (List (List ℕ))) (vs : List Vertex) (es : List Edge) (p : Option ℕ) (words : List (List ℕ)) (v : Vertex) → Says body vs es p → SaysVertex words v → Says (body ++ words ∷ []) (vs ++ v ∷ []) es p
-  edge : (body : List (List (List ℕ))) (vs : List Vertex) (es : List Edge) (p : Option ℕ) (words : List (List ℕ)) (e : Edge) → Says body vs es p → SaysEdge vs words e → Says (body ++ words ∷ []) vs (es ++ e ∷ []) p
+  vertex : (body : List (List (List ℕ))) (vs : List Vertex) (es : List Edge) (p : Option ℕ) (words : List (List ℕ)) (v : Vertex) → Says body vs es p → SaysVertex words v
+      → Says (body ++ words ∷ []) (vs ++ v ∷ []) es p
+  edge : (body : List (List (List ℕ))) (vs : List Vertex) (es : List Edge) (p : Option ℕ) (words : List (List ℕ)) (e : Edge) → Says body vs es p → SaysEdge vs words e
+      → Says (body ++ words ∷ []) vs (es ++ e ∷ []) p
   priority : (body : List (List (List ℕ))) (vs : List Vertex) (es : List Edge) (words : List (List ℕ)) (n : ℕ) → Says body vs es None → SaysPriority words n → Says (body ++ words ∷ []) vs es (Some n)
 
 -- The priority that the lines of a task write: in version 2 its own, in version 1 none.

@@ -13,5 +13,6 @@ returns-in-Some c =
 pub returns-in-None : goal.returns-in-None
 returns-in-None c = (
   λ h. absurd (cc),
-  λ named. absurd (c.in-None.ensures named.0 (job_place c.args.tasks.now c.args.releases.now c.args.miss.task c.args.miss.index named.0 (named_job (jobs_of c.args.tasks.now c.args.releases.now) c.args.miss named))),
+  λ named. absurd (c.in-None.ensures named.0
+      (job_place c.args.tasks.now c.args.releases.now c.args.miss.task c.args.miss.index named.0 (named_job (jobs_of c.args.tasks.now c.args.releases.now) c.args.miss named))),
 )

@@ -14,4 +14,5 @@ items-preserved c =
 pub returns : goal.returns
 returns c =
     let items = c.args.items.now in
-    added_all c.items.queries.items (map blank (passing_times (drop c.items.item-index items))) (c.args.queries.now.items ++ map blank (passing_times items)) (times_ended blank items c.items.item-index c.items-test.false) c.items.invariant
+    added_all c.items.queries.items (map blank (passing_times (drop c.items.item-index items))) (c.args.queries.now.items ++ map blank (passing_times items))
+        (times_ended blank items c.items.item-index c.items-test.false) c.items.invariant

@@ -14,7 +14,8 @@ returns-then-not-branch-clause-timely c =
     let k = c.items.item-index in
     let make : ℕ → Mark = make_mark c.args.wcet c.args.deadline in (
       λ e. absurd (false≢true e),
-      λ all. absurd (left_fails IsTimely (AllByRecursion IsTimely (map make (passing_times items))) (map make (passing_times (drop k items))) (map make (passing_times (item_at items k ∷ []))) (map make (passing_times (drop (k + 1) items)))
+      λ all. absurd (left_fails IsTimely (AllByRecursion IsTimely (map make (passing_times items))) (map make (passing_times (drop k items)))
+          (map make (passing_times (item_at items k ∷ []))) (map make (passing_times (drop (k + 1) items)))
           (times_turned make items k c.items-test.true) (λ is. both_ways c.in_ok-add_time.field-0 c.if-not-branch.true (c.in_ok-add_time.ensures.timely.1 is)) c.items.invariant.0 all),
     )
 
@@ -37,7 +38,8 @@ pub returns-clause-timely : goal.returns-clause-timely
 returns-clause-timely c =
     let items = c.args.items.now in
     let make : ℕ → Mark = make_mark c.args.wcet c.args.deadline in (
-      λ e. left_none IsTimely (AllByRecursion IsTimely (map make (passing_times items))) (map make (passing_times (drop c.items.item-index items))) (times_ended make items c.items.item-index c.items-test.false) c.items.invariant.0,
+      λ e. left_none IsTimely (AllByRecursion IsTimely (map make (passing_times items))) (map make (passing_times (drop c.items.item-index items)))
+          (times_ended make items c.items.item-index c.items-test.false) c.items.invariant.0,
       λ all. refl,
     )
 

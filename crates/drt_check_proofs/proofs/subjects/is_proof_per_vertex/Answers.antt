@@ -18,8 +18,10 @@ returns-then-proofs-first c =
       λ e. absurd (false≢true e),
       λ all. (let here = rw (sym c.tasks-tasks.ensures.tasks) at all in
           elim c.then-proofs-first.branch [
-            | then-proofs-first-via-then-proofs-first w ↦ absurd (too_few_left A proofs c.tasks.first c.tasks.k n t tasks c.tasks-test.true c.index-tasks-k.is n_is w.if-proofs-first.true c.tasks.invariant.1 here)
-            | then-proofs-first-via-else-proofs-first+then-not-are_of_task w ↦ absurd (not_next A proofs c.tasks.first c.tasks.k n t tasks c.tasks-test.true c.index-tasks-k.is n_is c.tasks.invariant.0 w.if-proofs-first.false
+            | then-proofs-first-via-then-proofs-first w ↦ absurd
+                (too_few_left A proofs c.tasks.first c.tasks.k n t tasks c.tasks-test.true c.index-tasks-k.is n_is w.if-proofs-first.true c.tasks.invariant.1 here)
+            | then-proofs-first-via-else-proofs-first+then-not-are_of_task w ↦ absurd
+                (not_next A proofs c.tasks.first c.tasks.k n t tasks c.tasks-test.true c.index-tasks-k.is n_is c.tasks.invariant.0 w.if-proofs-first.false
                 (λ own. (let yes = w.are_of_task.ensures.1 own in cc)) c.tasks.invariant.1 here)
           ]),
     )

@@ -104,5 +104,6 @@ returns c =
                 absurd (omega (arith, b, h.from, rank, c.last_in-last.ensures)))
             | inr q ↦ q
           ] in
-          absurd (c.loop-k.invariant.1 h.place h.entry past h.within (omega (arith, h.to, rank)) (subst (λ (x : Entry). IsWalkOver c.args.bound g c.args.walk.now (get_or c.args.walks.now x.number [])) (sym h.at) h.over)),
+          absurd (c.loop-k.invariant.1 h.place h.entry past h.within (omega (arith, h.to, rank))
+              (subst (λ (x : Entry). IsWalkOver c.args.bound g c.args.walk.now (get_or c.args.walks.now x.number [])) (sym h.at) h.over)),
     )

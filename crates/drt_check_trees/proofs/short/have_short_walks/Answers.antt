@@ -9,7 +9,8 @@ pub returns-then-not-has_short_walks : goal.returns-then-not-has_short_walks
 returns-then-not-has_short_walks c =
     let bound = c.greatest_deadline-bound.ensures.value in (
       λ e. absurd (cc),
-      λ each. absurd (each_not (HasShortWalks c.greatest_deadline-bound.result) (tree_graphs c.args.set.now.tasks c.args.trees.now) c.args.trees.now c.loop-i.i c.tree_graph-graph.result.now c.index-trees-i.result
+      λ each. absurd (each_not (HasShortWalks c.greatest_deadline-bound.result) (tree_graphs c.args.set.now.tasks c.args.trees.now) c.args.trees.now c.loop-i.i
+          c.tree_graph-graph.result.now c.index-trees-i.result
           c.tree_graph-graph.ensures.graph c.index-trees-i.is c.loop-i-test.true (λ has. (let r : c.has_short_walks.result ≡ true = c.has_short_walks.ensures.1 has in cc))
           (subst (λ (b : ℕ). Each (HasShortWalks b) (tree_graphs c.args.set.now.tasks c.args.trees.now) c.args.trees.now) (sym bound) each)),
     )

@@ -15,5 +15,6 @@ tasks-preserved c =
     let items : c.push.new.self.items ≡ chosen ++ walk ∷ [] = c.in_ok-push.ensures.items in
     record {
       count = omega (arith, ap length items, length-append chosen (walk ∷ []), c.tasks.invariant.count);
-      each = subst (λ (ws : List (List ℕ)). (k : ℕ) → k < c.tasks.k + 1 → Is k (walk_at ws k)) (sym items) (one_more Is chosen walk c.tasks.k c.tasks.invariant.count c.tasks.invariant.each c.in_ok-walk.ensures);
+      each = subst (λ (ws : List (List ℕ)). (k : ℕ) → k < c.tasks.k + 1 → Is k (walk_at ws k)) (sym items)
+          (one_more Is chosen walk c.tasks.k c.tasks.invariant.count c.tasks.invariant.each c.in_ok-walk.ensures);
     }

@@ -7,14 +7,16 @@ use Rattle.drt_ratio.proofs.Optima.{cross, measure_falls, has_ratio}
 use Rattle.drt_ratio.proofs.Ends.{Ended, ratio_proof, rules_kept, in_reach}
 use Rattle.drt_ratio.proofs.improving.greatest.Goals as goal
 
-ended : (c : goal.After-drop-levels-in_default) → Ended c.args.graph.now c.improving.ratio.num c.improving.ratio.den (vertex_count c.args.graph.now) c.in_ok-levels.levels.items c.in_ok-potentials.potentials.items
+ended : (c : goal.After-drop-levels-in_default) → Ended c.args.graph.now c.improving.ratio.num c.improving.ratio.den (vertex_count c.args.graph.now)
+    c.in_ok-levels.levels.items c.in_ok-potentials.potentials.items
 ended c =
     let sound = c.vertex_count-count.ensures.sound in
     let some = sound.some in
     let a : c.num-a.result ≡ c.improving.ratio.num = c.num-a.ensures in
     let b : c.den-b.result ≡ c.improving.ratio.den = c.den-b.ensures.value in
     let n : c.vertex_count-count.result ≡ vertex_count c.args.graph.now = c.vertex_count-count.ensures.count in
-    let read : c.index.result.now ≡ level_of c.in_ok-levels.levels.items (c.vertex_count-count.result - 1) = get_or_read c.in_ok-levels.levels.items (c.vertex_count-count.result - 1) c.index.result.now (omega (arith, c.in_ok-levels.ensures.count)) c.index.ensures no_level in
+    let read : c.index.result.now ≡ level_of c.in_ok-levels.levels.items (c.vertex_count-count.result - 1) = get_or_read c.in_ok-levels.levels.items
+        (c.vertex_count-count.result - 1) c.index.result.now (omega (arith, c.in_ok-levels.ensures.count)) c.index.ensures no_level in
     let is : c.index.result.now ≡ level_of c.in_ok-levels.levels.items (vertex_count c.args.graph.now - 1) = rw n at read in
     let settled : IsSettled c.in_ok-levels.levels.items (vertex_count c.args.graph.now) = rw (c.in_default.is, c.as_slice.ensures.value) at c.in_ok-found.ensures in
     let tower : IsTower c.args.graph.now c.improving.ratio.num c.improving.ratio.den c.in_ok-levels.levels.items = rw (a, b) at c.in_ok-levels.ensures.tower in
@@ -46,7 +48,8 @@ improving-smaller c =
     let gain : IsGain c.args.graph.now c.improving.ratio.num c.improving.ratio.den c.in-Some.found.items = rw (c.in-Some.is, a, b) at c.in_ok-found.ensures in
     let value = rw c.as_slice-in-improving.ensures.value at c.ratio_of-ratio.ensures.value in
     measure_falls c.improving.ratio.num c.improving.ratio.den c.ratio_of-ratio.result.num c.ratio_of-ratio.result.den
-    (cross c.improving.ratio.num c.improving.ratio.den c.ratio_of-ratio.result.num c.ratio_of-ratio.result.den (work c.args.graph.now c.in-Some.found.items) (cycle_span c.args.graph.now c.in-Some.found.items) gain.gains value c.ratio_of-ratio.result.positive)
+    (cross c.improving.ratio.num c.improving.ratio.den c.ratio_of-ratio.result.num c.ratio_of-ratio.result.den (work c.args.graph.now c.in-Some.found.items)
+        (cycle_span c.args.graph.now c.in-Some.found.items) gain.gains value c.ratio_of-ratio.result.positive)
     c.improving.ratio.positive c.ratio_of-ratio.result.positive c.improving.invariant.den_small c.ratio_of-ratio.ensures.den_small c.ratio_of-ratio.ensures.num_small
 
 pub improving-preserved : goal.improving-preserved

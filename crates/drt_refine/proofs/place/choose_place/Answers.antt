@@ -6,7 +6,8 @@ use Rattle.drt_refine.proofs.Widest.{AreAtMost, IsBest, place_of}
 use Rattle.drt_refine.proofs.place.choose_place.Goals as goal
 
 pub leaves_under-leaves-requires : goal.leaves_under-leaves-requires
-leaves_under-leaves-requires c = nodes_at c.args.forest.now c.args.nodes.now c.loop-i.i (slice_index_or c.args.nodes.now c.loop-i.i 0) (slice_get-get_or c.args.nodes.now c.loop-i.i 0 c.loop-i-test.true) c.requires.nodes
+leaves_under-leaves-requires c = nodes_at c.args.forest.now c.args.nodes.now c.loop-i.i (slice_index_or c.args.nodes.now c.loop-i.i 0)
+    (slice_get-get_or c.args.nodes.now c.loop-i.i 0 c.loop-i-test.true) c.requires.nodes
 
 pub returns : goal.returns
 returns c =

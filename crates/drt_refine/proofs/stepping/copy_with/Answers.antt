@@ -19,9 +19,14 @@ loop-k-preserved c =
     let is : slice_get (set part c.args.place c.args.item) k ≡ Some c.if-k-place.copied =
     elim c.if-k-place.branch [
       | then-k-place w ↦ at_set_same part c.args.place k c.args.item y.0 w.if-k-place.true at ∙ ap (λ x. Some x) (sym w.copied-is)
-      | else-k-place w ↦ at_set_other part c.args.place k c.args.item y.0 w.if-k-place.false at ∙ (sym now ∙ (slice_get_read c.loop-k.items.items (length c.loop-k.items.items) (a + k) w.index.result.now refl (omega arith) w.index.ensures ∙ ap (λ x. Some x) (sym w.copied-is)))
+      | else-k-place w ↦ at_set_other part c.args.place k c.args.item y.0 w.if-k-place.false at
+          ∙ (sym now ∙ (slice_get_read c.loop-k.items.items (length c.loop-k.items.items) (a + k) w.index.result.now refl (omega arith) w.index.ensures ∙ ap (λ x. Some x) (sym w.copied-is)))
     ] in (
-      c.push_within.ensures.items ∙ (ap (λ xs. xs ++ c.if-k-place.copied ∷ []) c.loop-k.invariant.0 ∙ (append_twice old (take k (set part c.args.place c.args.item)) (c.if-k-place.copied ∷ []) ∙ ap (λ ys. old ++ ys) (sym (take_push (set part c.args.place c.args.item) k c.if-k-place.copied is)))),
+      c.push_within.ensures.items
+          ∙ (ap (λ xs. xs ++ c.if-k-place.copied ∷ []) c.loop-k.invariant.0
+          ∙ (append_twice old (take k (set part c.args.place c.args.item)) (c.if-k-place.copied ∷ [])
+          ∙ ap (λ ys. old ++ ys) (sym (take_push (set part c.args.place c.args.item) k c.if-k-place.copied is)))),
       omega (arith, c.push_within.ensures.capacity, c.loop-k.invariant.1),
-      (let m : length c.push_within.new.items.items ≡ length c.loop-k.items.items + 1 = ap length c.push_within.ensures.items ∙ length-append c.loop-k.items.items (c.if-k-place.copied ∷ []) in omega (arith, c.loop-k.invariant.2)),
+      (let m : length c.push_within.new.items.items ≡ length c.loop-k.items.items + 1 = ap length c.push_within.ensures.items
+          ∙ length-append c.loop-k.items.items (c.if-k-place.copied ∷ []) in omega (arith, c.loop-k.invariant.2)),
     )

@@ -2,4 +2,5 @@ use Rattle.std.proofs.Common.{◌≡◌, ◌+◌, ◌≤◌, ◌++◌, take, dro
 use Rattle.drt_refine.proofs.stepping.copy_with.Given as goal
 
 abbrev pub invariant-loop-k : goal.invariant-loop-k
-invariant-loop-k l = (l.items.items ≡ l.initial.items.items ++ take l.k (set (take l.width (drop l.start l.initial.items.items)) l.place l.item)) × (vec_capacity l.initial.items ≤ vec_capacity l.items) × (length l.items.items ≡ length l.initial.items.items + l.k)
+invariant-loop-k l = (l.items.items ≡ l.initial.items.items ++ take l.k (set (take l.width (drop l.start l.initial.items.items)) l.place l.item))
+    × (vec_capacity l.initial.items ≤ vec_capacity l.items) × (length l.items.items ≡ length l.initial.items.items + l.k)

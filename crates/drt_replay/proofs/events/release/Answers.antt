@@ -19,7 +19,8 @@ loop-i-preserved c =
     let s = c.release_from.result in
     let here : i < length w = omega (arith, c.loop-i-test.true, c.loop-i.auto.waiting) in
     record {
-      moved = moved_more c.args.policy c.args.jobs.now c.args.now c.args.waiting.now c.args.ready.now w c.loop-i.ready c.loop-i.invariant.moved i here s c.release_from.new.ready c.release_from.ensures.moved;
+      moved = moved_more c.args.policy c.args.jobs.now c.args.now c.args.waiting.now c.args.ready.now w c.loop-i.ready c.loop-i.invariant.moved i here s
+          c.release_from.new.ready c.release_from.ensures.moved;
       later = λ k h. elim (cases_eq k i) [
         | inl e ↦ subst (λ x. IsLater c.args.jobs.now c.args.now (stretch_at (set w i s) x)) (sym e) (rw (get_or-set_same w i s no_stretch here) c.release_from.ensures.later)
         | inr ne ↦ rw (get_or-set_other w i k s no_stretch ne) (c.loop-i.invariant.later k (omega arith))

@@ -16,4 +16,5 @@ returns c passes =
     let vertex : c.label.inside.vertex ≡ c.node-2.result.now.node.label.vertex = search rules in
     let same = eqb-true c.offered-offered.result c.out_degree.result passes in
     let degree = c.out_degree.ensures ∙ (ap (λ g. out_degree g c.label.inside.vertex) c.requires ∙ ap (λ x. out_degree c.args.table.now.graph x) vertex) in
-    can_close c.args.table.now c.args.worker c.args.node c.node.result.now c.node-2.result.now (sym c.held_by.ensures ∙ (c.in-Some.is ∙ ap Some c.if-held-node.true)) c.node.ensures c.node-2.ensures (offered ∙ (same ∙ degree))
+    can_close c.args.table.now c.args.worker c.args.node c.node.result.now c.node-2.result.now (sym c.held_by.ensures ∙ (c.in-Some.is ∙ ap Some c.if-held-node.true))
+        c.node.ensures c.node-2.ensures (offered ∙ (same ∙ degree))

@@ -14,7 +14,9 @@ loop-jump-preserved c =
     let j : Jump = slice_index_or js i (record { after = 0; rise = 0 }) in
     let at : slice_get js i ≡ Some j = slice_get-get_or js i (record { after = 0; rise = 0 }) c.loop-jump-test.true in
     elim c.if-jump-new.branch [
-      | then-jump-new+in_ok-push w ↦ ap (λ v. v.items) w.all-is ∙ (w.in_ok-push.ensures.items ∙ (ap (λ xs. xs ++ j ∷ []) c.loop-jump.invariant ∙ sym (up_to_in c.args.new.after i j js at (let h : j.after ≤ c.args.new.after = w.if-jump-new.true in h))))
+      | then-jump-new+in_ok-push w ↦ ap (λ v. v.items) w.all-is
+          ∙ (w.in_ok-push.ensures.items
+          ∙ (ap (λ xs. xs ++ j ∷ []) c.loop-jump.invariant ∙ sym (up_to_in c.args.new.after i j js at (let h : j.after ≤ c.args.new.after = w.if-jump-new.true in h))))
       | else-jump-new w ↦ ap (λ v. v.items) w.all-is ∙ (c.loop-jump.invariant ∙ sym (up_to_out c.args.new.after i j js at (omega (arith, w.if-jump-new.false))))
     ]
 
@@ -27,7 +29,11 @@ loop-jump-2-preserved c =
     let front : List Jump = up_to c.args.new.after c.args.jumps.now in
     let at : slice_get js i ≡ Some j = slice_get-get_or js i (record { after = 0; rise = 0 }) c.loop-jump-2-test.true in
     elim c.if-jump-new-2.branch [
-      | then-jump-new-2+in_ok-push-3 w ↦ ap (λ v. v.items) w.all-is ∙ (w.in_ok-push-3.ensures.items ∙ (ap (λ xs. xs ++ j ∷ []) c.loop-jump-2.invariant ∙ (append_after front new (past c.args.new.after (take i js)) (j ∷ []) ∙ ap (λ ys. front ++ new ∷ ys) (sym (past_in c.args.new.after i j js at (let h : c.args.new.after < j.after = w.if-jump-new-2.true in h))))))
+      | then-jump-new-2+in_ok-push-3 w ↦ ap (λ v. v.items) w.all-is
+          ∙ (w.in_ok-push-3.ensures.items
+          ∙ (ap (λ xs. xs ++ j ∷ []) c.loop-jump-2.invariant
+          ∙ (append_after front new (past c.args.new.after (take i js)) (j ∷ [])
+          ∙ ap (λ ys. front ++ new ∷ ys) (sym (past_in c.args.new.after i j js at (let h : c.args.new.after < j.after = w.if-jump-new-2.true in h))))))
       | else-jump-new-2 w ↦ ap (λ v. v.items) w.all-is ∙ (c.loop-jump-2.invariant ∙ ap (λ ys. front ++ new ∷ ys) (sym (past_out c.args.new.after i j js at (omega (arith, w.if-jump-new-2.false)))))
     ]
 

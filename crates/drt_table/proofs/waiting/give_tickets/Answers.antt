@@ -16,7 +16,8 @@ loop-i-preserved g c =
     let capacity = before.capacity in
     let more = c.push_ticket.ensures in
     record {
-      waiting = pushed_ticket g.L.Label.algebra nodes (heap_items c.loop-i.queue) (heap_items c.push_ticket.new.queue) c.loop-i.i c.index-nodes-i.result c.offset.result before.waiting at c.offset.ensures more.permutation;
+      waiting = pushed_ticket g.L.Label.algebra nodes (heap_items c.loop-i.queue) (heap_items c.push_ticket.new.queue) c.loop-i.i c.index-nodes-i.result c.offset.result
+          before.waiting at c.offset.ensures more.permutation;
       order = more.order;
       from = omega arith;
       len = omega (arith, len, more.len);

@@ -10,7 +10,8 @@ loop-queue-preserved g c =
     let len = before.len in
     let less = c.pop_ticket.ensures.len in
     record {
-      waiting = popped_stale g.L.Label.algebra nodes (heap_items c.loop-queue.queue) (heap_items c.pop_ticket.new.queue) (length nodes) before.waiting (c.is_stale.ensures.stale c.loop-queue-test.true) (c.pop_ticket.ensures.first.0, c.pop_ticket.ensures.first.1, c.pop_ticket.ensures.first.3);
+      waiting = popped_stale g.L.Label.algebra nodes (heap_items c.loop-queue.queue) (heap_items c.pop_ticket.new.queue) (length nodes) before.waiting
+          (c.is_stale.ensures.stale c.loop-queue-test.true) (c.pop_ticket.ensures.first.0, c.pop_ticket.ensures.first.1, c.pop_ticket.ensures.first.3);
       order = c.pop_ticket.ensures.order;
       len = omega (arith, len, less);
       capacity = c.pop_ticket.ensures.capacity ∙ before.capacity;

@@ -13,7 +13,8 @@ loop-next-preserved c =
       within = omega arith;
       printed = until_step tasks releases events next c.loop-next-test.true _ c.loop-next.text.items c.push_event.new.text.items _ c.in_ok-push_event.ensures c.args.time c.if-events-next.true
           c.loop-next.invariant.printed;
-      rest = after_step tasks releases events next c.loop-next-test.true _ c.loop-next.text.items c.push_event.new.text.items c.push_event.new.text.items c.in_ok-push_event.ensures c.args.time c.if-events-next.true
+      rest = after_step tasks releases events next c.loop-next-test.true _ c.loop-next.text.items c.push_event.new.text.items c.push_event.new.text.items
+          c.in_ok-push_event.ensures c.args.time c.if-events-next.true
           _ c.loop-next.invariant.rest;
     }
 

@@ -12,5 +12,6 @@ returns-clause-machine c = λ y h.
       c.note.new.self,
       rw h refl,
       c.note.ensures.start ∙ ap (λ (t : Tally). t.start) same,
-      subst (λ (t : Tally). MatchBool c.note.result (length c.note.new.self.notes.items ≡ length t.notes.items + 1) (length c.note.new.self.notes.items ≡ length t.notes.items)) same c.note.ensures.notes,
+      subst (λ (t : Tally). MatchBool c.note.result (length c.note.new.self.notes.items ≡ length t.notes.items + 1)
+          (length c.note.new.self.notes.items ≡ length t.notes.items)) same c.note.ensures.notes,
     )

@@ -50,7 +50,8 @@ more c =
     let e : KeptLabel = record { number = c.args.number; samples = c.args.samples } in
     record {
       owners = c.push_reserved.ensures.items;
-      blocks = c.push_reserved-then-free-eq0.ensures.items ∙ ap (λ (b : List KeptLabel). c.self.inside.blocks.items ++ b ∷ []) (c.push.ensures ∙ ap (λ (b : List KeptLabel). b ++ e ∷ []) c.new-block.ensures);
+      blocks = c.push_reserved-then-free-eq0.ensures.items ∙ ap (λ (b : List KeptLabel). c.self.inside.blocks.items ++ b ∷ [])
+          (c.push.ensures ∙ ap (λ (b : List KeptLabel). b ++ e ∷ []) c.new-block.ensures);
       lasts = ap (λ n. set c.self.inside.lasts.items c.args.vertex n) (let is : c.len.result ≡ length c.self.inside.blocks.items = omega (arith, c.self.inside.blocks.ok.0) in is);
       free = refl;
       count = refl;

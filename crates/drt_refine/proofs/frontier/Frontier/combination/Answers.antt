@@ -17,7 +17,8 @@ row w width nodes states id same flat lt =
     let h : id * w + w ≤ length nodes = omega arith in
     subst (λ (n : ℕ). id * n + n ≤ length nodes) (sym same) h
 
-part_is : (w width : ℕ) (nodes : List ℕ) (states : List CombinationState) (id : ℕ) (x : Combination) → width ≡ w → slice_get (combinations_of w nodes states) id ≡ Some x → take (id * width + width - id * width) (drop (id * width) nodes) ≡ x.nodes
+part_is : (w width : ℕ) (nodes : List ℕ) (states : List CombinationState) (id : ℕ) (x : Combination) → width ≡ w → slice_get (combinations_of w nodes states) id ≡ Some x
+    → take (id * width + width - id * width) (drop (id * width) nodes) ≡ x.nodes
 part_is w width nodes states id x same at =
     let a : CombinationAt w nodes states id x = combination_at w nodes states id x at in
     let e : id * width + width - id * width ≡ width = omega arith in
@@ -26,8 +27,10 @@ part_is w width nodes states id x same at =
 pub slice_bounds-result-end : goal.slice_bounds-result-end
 slice_bounds-result-end c =
     let w : ℕ = length c.self.inside.roots.items in
-    let n : length c.self.inside.states.items ≡ length c.args.self.now.combinations = sym (length_combinations w c.self.inside.nodes.items c.self.inside.states.items) ∙ ap (λ (v : FrontierView). length v.combinations) c.self.view_is in
-    let r : c.args.id * c.len-width.result + c.len-width.result ≤ length c.self.inside.nodes.items = row w c.len-width.result c.self.inside.nodes.items c.self.inside.states.items c.args.id (omega (arith, c.self.inside.roots.ok.0, c.len-width.ensures)) c.self.invariant.4 (omega (arith, c.requires)) in
+    let n : length c.self.inside.states.items ≡ length c.args.self.now.combinations = sym (length_combinations w c.self.inside.nodes.items c.self.inside.states.items)
+        ∙ ap (λ (v : FrontierView). length v.combinations) c.self.view_is in
+    let r : c.args.id * c.len-width.result + c.len-width.result ≤ length c.self.inside.nodes.items = row w c.len-width.result c.self.inside.nodes.items
+        c.self.inside.states.items c.args.id (omega (arith, c.self.inside.roots.ok.0, c.len-width.ensures)) c.self.invariant.4 (omega (arith, c.requires)) in
     subst (λ (xs : List ℕ). c.args.id * c.len-width.result + c.len-width.result ≤ length xs) (sym c.deref.ensures.value) r
 
 pub returns : goal.returns
@@ -35,4 +38,5 @@ returns c =
     let w : ℕ = length c.self.inside.roots.items in
     if_some (slice_get c.args.self.now.combinations c.args.id) _ (λ x at.
     ap (λ xs. take (c.args.id * c.len-width.result + c.len-width.result - c.args.id * c.len-width.result) (drop (c.args.id * c.len-width.result) xs)) c.deref.ensures.value
-    ∙ part_is w c.len-width.result c.self.inside.nodes.items c.self.inside.states.items c.args.id x (omega (arith, c.self.inside.roots.ok.0, c.len-width.ensures)) (ap (λ (v : FrontierView). slice_get v.combinations c.args.id) c.self.view_is ∙ at))
+    ∙ part_is w c.len-width.result c.self.inside.nodes.items c.self.inside.states.items c.args.id x (omega (arith, c.self.inside.roots.ok.0, c.len-width.ensures))
+        (ap (λ (v : FrontierView). slice_get v.combinations c.args.id) c.self.view_is ∙ at))

@@ -11,7 +11,8 @@ use Rattle.drt_refine.proofs.Sorted.{held_taken}
 use Rattle.drt_refine.proofs.states.States.held_by.Goals as goal
 
 -- the taken number at the place that was read
-at_place : (items : List CombinationState) (taken : List ℕ) (j n id : ℕ) → taken ≡ places is_taken_combination items → n ≡ length taken → j < n → id ≡ slice_index_or taken j id → (slice_get taken j ≡ Some id) × (id < length items)
+at_place : (items : List CombinationState) (taken : List ℕ) (j n id : ℕ) → taken ≡ places is_taken_combination items → n ≡ length taken → j < n
+    → id ≡ slice_index_or taken j id → (slice_get taken j ≡ Some id) × (id < length items)
 at_place items taken j n id is e lt read =
     let there : slice_get taken j ≡ Some id = slice_get_read taken n j id e lt read in
     let p : IsPlaceOf 0 is_taken_combination items id = place_is is_taken_combination 0 items j id (ap (λ l. slice_get l j) (sym is) ∙ there) in
@@ -22,7 +23,8 @@ at_place items taken j n id is e lt read =
 pub index-requires : goal.index-requires
 index-requires c =
     let here : (slice_get c.self.inside.taken.items c.loop-j.j ≡ Some c.index-id.result.now) × (c.index-id.result.now < length c.self.inside.items.items) =
-    at_place c.self.inside.items.items c.self.inside.taken.items c.loop-j.j (length c.self.inside.taken.items) c.index-id.result.now c.self.invariant.0.taken_are refl (omega (arith, c.len-j-end.ensures, c.self.inside.taken.ok.0, c.loop-j-test.true)) c.index-id.ensures in
+    at_place c.self.inside.items.items c.self.inside.taken.items c.loop-j.j (length c.self.inside.taken.items) c.index-id.result.now c.self.invariant.0.taken_are refl
+        (omega (arith, c.len-j-end.ensures, c.self.inside.taken.ok.0, c.loop-j-test.true)) c.index-id.ensures in
     omega (arith, here.1, c.self.inside.items.ok.0)
 
 pub returns-then-is_held : goal.returns-then-is_held

@@ -11,7 +11,8 @@ invariant_of-self c =
     let n : length items ≡ length c.args.self.now.items = ap (λ (v : CombinationStock). length v.items) c.self.view_is in
     let r : c.self.inside.room ≡ c.args.self.now.room = ap (λ (v : CombinationStock). v.room) c.self.view_is in
     let l : length c.push_within.new.items.items ≡ length items + 1 = ap length c.push_within.ensures.items ∙ length-append items (Pending ∷ []) in (
-      subst (λ (xs : List CombinationState). AreSorted xs c.self.inside.next c.self.inside.taken.items c.self.inside.failed) (sym c.push_within.ensures.items) (push_sorted items c.self.inside.next c.self.inside.taken.items c.self.inside.failed c.self.invariant.0),
+      subst (λ (xs : List CombinationState). AreSorted xs c.self.inside.next c.self.inside.taken.items c.self.inside.failed) (sym c.push_within.ensures.items)
+          (push_sorted items c.self.inside.next c.self.inside.taken.items c.self.inside.failed c.self.invariant.0),
       omega (arith, c.requires),
       c.self.invariant.2,
       omega (arith, c.push_within.ensures.capacity, c.self.invariant.3),

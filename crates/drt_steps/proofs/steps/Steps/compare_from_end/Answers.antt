@@ -13,7 +13,8 @@ loop-t-init c =
     let m : c.bound-t.result ≡ length ys = n ∙ c.requires in
     record {
       within = omega arith;
-      rest = ap (λ zs. slice_cmp nat_cmp zs (reverse ys)) (reverse_down xs ∙ ap (λ k. down xs k) (sym n)) ∙ ap (λ zs. slice_cmp nat_cmp (down xs c.bound-t.result) zs) (reverse_down ys ∙ ap (λ k. down ys k) (sym m));
+      rest = ap (λ zs. slice_cmp nat_cmp zs (reverse ys)) (reverse_down xs ∙ ap (λ k. down xs k) (sym n)) ∙ ap (λ zs. slice_cmp nat_cmp (down xs c.bound-t.result) zs)
+          (reverse_down ys ∙ ap (λ k. down ys k) (sym m));
     }
 
 pub loop-t-preserved : goal.loop-t-preserved

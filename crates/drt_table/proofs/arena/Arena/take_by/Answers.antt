@@ -20,25 +20,34 @@ use Rattle.drt_table.proofs.arena.Arena.take_by.Goals as goal
 pub returns : goal.returns
 returns g c =
     let v : Stock _ = record { nodes = c.self.inside.nodes.items; vertices = length c.self.inside.heads.items; room = c.self.inside.room } in
-    let can : Some c.args.id ≡ earliest (λ (h : Held _). is_node_pending h.node) (held_offset g.L.Label.algebra) v.nodes = subst (λ (x : Stock _). Some c.args.id ≡ earliest (λ (h : Held _). is_node_pending h.node) (held_offset g.L.Label.algebra) x.nodes) (sym c.self.view_is) c.requires in
-    let lt : c.args.id < length v.nodes = (let f : Earliest (λ (h : Held _). is_node_pending h.node) (held_offset g.L.Label.algebra) v.nodes c.args.id = found_earliest (λ (h : Held _). is_node_pending h.node) (held_offset g.L.Label.algebra) v.nodes c.args.id (sym can) in slice_get_within v.nodes c.args.id f.item f.at) in
+    let can : Some c.args.id ≡ earliest (λ (h : Held _). is_node_pending h.node) (held_offset g.L.Label.algebra) v.nodes = subst
+        (λ (x : Stock _). Some c.args.id ≡ earliest (λ (h : Held _). is_node_pending h.node) (held_offset g.L.Label.algebra) x.nodes) (sym c.self.view_is) c.requires in
+    let lt : c.args.id < length
+        v.nodes = (let f : Earliest (λ (h : Held _). is_node_pending h.node) (held_offset g.L.Label.algebra) v.nodes c.args.id = found_earliest
+        (λ (h : Held _). is_node_pending h.node) (held_offset g.L.Label.algebra) v.nodes c.args.id (sym can) in slice_get_within v.nodes c.args.id f.item f.at) in
     let at : slice_get v.nodes c.args.id ≡ Some c.index_mut.result.now = slice_get_read v.nodes (length v.nodes) c.args.id c.index_mut.result.now refl lt c.index_mut.ensures.value in
-    let nodes : slice_set v.nodes c.args.id c.take_by.new.self ≡ changed c.args.id (take_by c.args.worker) v.nodes = ap (λ x. set v.nodes c.args.id x) c.take_by.ensures ∙ sym (changed_set (take_by c.args.worker) v.nodes c.args.id c.index_mut.result.now at) in
-    subst (λ (x : Stock _). HasNodes x (record { nodes = slice_set v.nodes c.args.id c.take_by.new.self; vertices = v.vertices; room = v.room }) (changed c.args.id (take_by c.args.worker) x.nodes)) c.self.view_is (record { nodes_are = nodes; vertices = refl; room = refl })
+    let nodes : slice_set v.nodes c.args.id c.take_by.new.self ≡ changed c.args.id (take_by c.args.worker) v.nodes = ap (λ x. set v.nodes c.args.id x) c.take_by.ensures
+        ∙ sym (changed_set (take_by c.args.worker) v.nodes c.args.id c.index_mut.result.now at) in
+    subst (λ (x : Stock _). HasNodes x (record { nodes = slice_set v.nodes c.args.id c.take_by.new.self; vertices = v.vertices; room = v.room })
+        (changed c.args.id (take_by c.args.worker) x.nodes)) c.self.view_is (record { nodes_are = nodes; vertices = refl; room = refl })
 
 pub index_mut-requires : goal.index_mut-requires
 index_mut-requires g c =
     let v : Stock _ = record { nodes = c.self.inside.nodes.items; vertices = length c.self.inside.heads.items; room = c.self.inside.room } in
-    let can : Some c.args.id ≡ earliest (λ (h : Held _). is_node_pending h.node) (held_offset g.L.Label.algebra) v.nodes = subst (λ (x : Stock _). Some c.args.id ≡ earliest (λ (h : Held _). is_node_pending h.node) (held_offset g.L.Label.algebra) x.nodes) (sym c.self.view_is) c.requires in
-    let f : Earliest (λ (h : Held _). is_node_pending h.node) (held_offset g.L.Label.algebra) v.nodes c.args.id = found_earliest (λ (h : Held _). is_node_pending h.node) (held_offset g.L.Label.algebra) v.nodes c.args.id (sym can) in
+    let can : Some c.args.id ≡ earliest (λ (h : Held _). is_node_pending h.node) (held_offset g.L.Label.algebra) v.nodes = subst
+        (λ (x : Stock _). Some c.args.id ≡ earliest (λ (h : Held _). is_node_pending h.node) (held_offset g.L.Label.algebra) x.nodes) (sym c.self.view_is) c.requires in
+    let f : Earliest (λ (h : Held _). is_node_pending h.node) (held_offset g.L.Label.algebra) v.nodes c.args.id = found_earliest (λ (h : Held _). is_node_pending h.node)
+        (held_offset g.L.Label.algebra) v.nodes c.args.id (sym can) in
     let lt : c.args.id < length v.nodes = slice_get_within v.nodes c.args.id f.item f.at in
     omega (arith, lt, c.self.inside.nodes.ok.0)
 
 pub take_by-requires-after_bounds : goal.take_by-requires-after_bounds
 take_by-requires-after_bounds g c κs within =
     let v : Stock _ = record { nodes = c.self.inside.nodes.items; vertices = length c.self.inside.heads.items; room = c.self.inside.room } in
-    let can : Some c.args.id ≡ earliest (λ (h : Held _). is_node_pending h.node) (held_offset g.L.Label.algebra) v.nodes = subst (λ (x : Stock _). Some c.args.id ≡ earliest (λ (h : Held _). is_node_pending h.node) (held_offset g.L.Label.algebra) x.nodes) (sym c.self.view_is) c.requires in
-    let f : Earliest (λ (h : Held _). is_node_pending h.node) (held_offset g.L.Label.algebra) v.nodes c.args.id = found_earliest (λ (h : Held _). is_node_pending h.node) (held_offset g.L.Label.algebra) v.nodes c.args.id (sym can) in
+    let can : Some c.args.id ≡ earliest (λ (h : Held _). is_node_pending h.node) (held_offset g.L.Label.algebra) v.nodes = subst
+        (λ (x : Stock _). Some c.args.id ≡ earliest (λ (h : Held _). is_node_pending h.node) (held_offset g.L.Label.algebra) x.nodes) (sym c.self.view_is) c.requires in
+    let f : Earliest (λ (h : Held _). is_node_pending h.node) (held_offset g.L.Label.algebra) v.nodes c.args.id = found_earliest (λ (h : Held _). is_node_pending h.node)
+        (held_offset g.L.Label.algebra) v.nodes c.args.id (sym can) in
     let lt : c.args.id < length v.nodes = slice_get_within v.nodes c.args.id f.item f.at in
     let at : slice_get v.nodes c.args.id ≡ Some c.index_mut.result.now = slice_get_read v.nodes (length v.nodes) c.args.id c.index_mut.result.now refl lt c.index_mut.ensures.value in
     ap (λ (h : Held _). is_node_pending h.node) (same_Some c.index_mut.result.now f.item (sym at ∙ f.at)) ∙ f.passes
@@ -46,10 +55,14 @@ take_by-requires-after_bounds g c κs within =
 pub pop_ticket-requires-clause-some : goal.pop_ticket-requires-clause-some
 pop_ticket-requires-clause-some g c =
     let v : Stock _ = record { nodes = c.self.inside.nodes.items; vertices = length c.self.inside.heads.items; room = c.self.inside.room } in
-    let can : Some c.args.id ≡ earliest (λ (h : Held _). is_node_pending h.node) (held_offset g.L.Label.algebra) v.nodes = subst (λ (x : Stock _). Some c.args.id ≡ earliest (λ (h : Held _). is_node_pending h.node) (held_offset g.L.Label.algebra) x.nodes) (sym c.self.view_is) c.requires in
-    let lt : c.args.id < length v.nodes = (let f : Earliest (λ (h : Held _). is_node_pending h.node) (held_offset g.L.Label.algebra) v.nodes c.args.id = found_earliest (λ (h : Held _). is_node_pending h.node) (held_offset g.L.Label.algebra) v.nodes c.args.id (sym can) in slice_get_within v.nodes c.args.id f.item f.at) in
+    let can : Some c.args.id ≡ earliest (λ (h : Held _). is_node_pending h.node) (held_offset g.L.Label.algebra) v.nodes = subst
+        (λ (x : Stock _). Some c.args.id ≡ earliest (λ (h : Held _). is_node_pending h.node) (held_offset g.L.Label.algebra) x.nodes) (sym c.self.view_is) c.requires in
+    let lt : c.args.id < length
+        v.nodes = (let f : Earliest (λ (h : Held _). is_node_pending h.node) (held_offset g.L.Label.algebra) v.nodes c.args.id = found_earliest
+        (λ (h : Held _). is_node_pending h.node) (held_offset g.L.Label.algebra) v.nodes c.args.id (sym can) in slice_get_within v.nodes c.args.id f.item f.at) in
     let at : slice_get v.nodes c.args.id ≡ Some c.index_mut.result.now = slice_get_read v.nodes (length v.nodes) c.args.id c.index_mut.result.now refl lt c.index_mut.ensures.value in
-    let nodes : slice_set v.nodes c.args.id c.take_by.new.self ≡ changed c.args.id (take_by c.args.worker) v.nodes = ap (λ x. set v.nodes c.args.id x) c.take_by.ensures ∙ sym (changed_set (take_by c.args.worker) v.nodes c.args.id c.index_mut.result.now at) in
+    let nodes : slice_set v.nodes c.args.id c.take_by.new.self ≡ changed c.args.id (take_by c.args.worker) v.nodes = ap (λ x. set v.nodes c.args.id x) c.take_by.ensures
+        ∙ sym (changed_set (take_by c.args.worker) v.nodes c.args.id c.index_mut.result.now at) in
     let old = c.self.invariant in
     let a = g.L.Label.algebra in
     let w : ℕ = c.args.worker in
@@ -64,10 +77,14 @@ pop_ticket-requires-clause-some g c =
 pub refresh-requires-clause-waiting : goal.refresh-requires-clause-waiting
 refresh-requires-clause-waiting g c κs within =
     let v : Stock _ = record { nodes = c.self.inside.nodes.items; vertices = length c.self.inside.heads.items; room = c.self.inside.room } in
-    let can : Some c.args.id ≡ earliest (λ (h : Held _). is_node_pending h.node) (held_offset g.L.Label.algebra) v.nodes = subst (λ (x : Stock _). Some c.args.id ≡ earliest (λ (h : Held _). is_node_pending h.node) (held_offset g.L.Label.algebra) x.nodes) (sym c.self.view_is) c.requires in
-    let lt : c.args.id < length v.nodes = (let f : Earliest (λ (h : Held _). is_node_pending h.node) (held_offset g.L.Label.algebra) v.nodes c.args.id = found_earliest (λ (h : Held _). is_node_pending h.node) (held_offset g.L.Label.algebra) v.nodes c.args.id (sym can) in slice_get_within v.nodes c.args.id f.item f.at) in
+    let can : Some c.args.id ≡ earliest (λ (h : Held _). is_node_pending h.node) (held_offset g.L.Label.algebra) v.nodes = subst
+        (λ (x : Stock _). Some c.args.id ≡ earliest (λ (h : Held _). is_node_pending h.node) (held_offset g.L.Label.algebra) x.nodes) (sym c.self.view_is) c.requires in
+    let lt : c.args.id < length
+        v.nodes = (let f : Earliest (λ (h : Held _). is_node_pending h.node) (held_offset g.L.Label.algebra) v.nodes c.args.id = found_earliest
+        (λ (h : Held _). is_node_pending h.node) (held_offset g.L.Label.algebra) v.nodes c.args.id (sym can) in slice_get_within v.nodes c.args.id f.item f.at) in
     let at : slice_get v.nodes c.args.id ≡ Some c.index_mut.result.now = slice_get_read v.nodes (length v.nodes) c.args.id c.index_mut.result.now refl lt c.index_mut.ensures.value in
-    let nodes : slice_set v.nodes c.args.id c.take_by.new.self ≡ changed c.args.id (take_by c.args.worker) v.nodes = ap (λ x. set v.nodes c.args.id x) c.take_by.ensures ∙ sym (changed_set (take_by c.args.worker) v.nodes c.args.id c.index_mut.result.now at) in
+    let nodes : slice_set v.nodes c.args.id c.take_by.new.self ≡ changed c.args.id (take_by c.args.worker) v.nodes = ap (λ x. set v.nodes c.args.id x) c.take_by.ensures
+        ∙ sym (changed_set (take_by c.args.worker) v.nodes c.args.id c.index_mut.result.now at) in
     let old = c.self.invariant in
     let a = g.L.Label.algebra in
     let w : ℕ = c.args.worker in
@@ -78,17 +95,22 @@ refresh-requires-clause-waiting g c κs within =
     let heads = c.self.inside.heads.items in
     let t : Ticket = c.pop_ticket.ensures.first.0 in
     let at_t : slice_get tickets 0 ≡ Some t = c.pop_ticket.ensures.first.1 in
-    let first : Some t.0.1 ≡ earliest (λ (h : Held _). is_node_pending h.node) (held_offset a) v.nodes = first_is_next a v.nodes tickets old.0.waiting old.0.fresh t at_t c.pop_ticket.ensures.first.2 in
+    let first : Some t.0.1 ≡ earliest (λ (h : Held _). is_node_pending h.node) (held_offset a) v.nodes = first_is_next a v.nodes tickets old.0.waiting old.0.fresh t at_t
+        c.pop_ticket.ensures.first.2 in
     subst (λ xs. AreWaiting a xs (heap_items c.pop_ticket.new.queue) (length xs)) (sym (c.as_slice.ensures.value ∙ nodes))
     (taken_waiting a v.nodes links heads tickets taken old.0 id w can (heap_items c.pop_ticket.new.queue) t at_t first c.pop_ticket.ensures.first.3)
 
 pub invariant_of-self : goal.invariant_of-self
 invariant_of-self g c =
     let v : Stock _ = record { nodes = c.self.inside.nodes.items; vertices = length c.self.inside.heads.items; room = c.self.inside.room } in
-    let can : Some c.args.id ≡ earliest (λ (h : Held _). is_node_pending h.node) (held_offset g.L.Label.algebra) v.nodes = subst (λ (x : Stock _). Some c.args.id ≡ earliest (λ (h : Held _). is_node_pending h.node) (held_offset g.L.Label.algebra) x.nodes) (sym c.self.view_is) c.requires in
-    let lt : c.args.id < length v.nodes = (let f : Earliest (λ (h : Held _). is_node_pending h.node) (held_offset g.L.Label.algebra) v.nodes c.args.id = found_earliest (λ (h : Held _). is_node_pending h.node) (held_offset g.L.Label.algebra) v.nodes c.args.id (sym can) in slice_get_within v.nodes c.args.id f.item f.at) in
+    let can : Some c.args.id ≡ earliest (λ (h : Held _). is_node_pending h.node) (held_offset g.L.Label.algebra) v.nodes = subst
+        (λ (x : Stock _). Some c.args.id ≡ earliest (λ (h : Held _). is_node_pending h.node) (held_offset g.L.Label.algebra) x.nodes) (sym c.self.view_is) c.requires in
+    let lt : c.args.id < length
+        v.nodes = (let f : Earliest (λ (h : Held _). is_node_pending h.node) (held_offset g.L.Label.algebra) v.nodes c.args.id = found_earliest
+        (λ (h : Held _). is_node_pending h.node) (held_offset g.L.Label.algebra) v.nodes c.args.id (sym can) in slice_get_within v.nodes c.args.id f.item f.at) in
     let at : slice_get v.nodes c.args.id ≡ Some c.index_mut.result.now = slice_get_read v.nodes (length v.nodes) c.args.id c.index_mut.result.now refl lt c.index_mut.ensures.value in
-    let nodes : slice_set v.nodes c.args.id c.take_by.new.self ≡ changed c.args.id (take_by c.args.worker) v.nodes = ap (λ x. set v.nodes c.args.id x) c.take_by.ensures ∙ sym (changed_set (take_by c.args.worker) v.nodes c.args.id c.index_mut.result.now at) in
+    let nodes : slice_set v.nodes c.args.id c.take_by.new.self ≡ changed c.args.id (take_by c.args.worker) v.nodes = ap (λ x. set v.nodes c.args.id x) c.take_by.ensures
+        ∙ sym (changed_set (take_by c.args.worker) v.nodes c.args.id c.index_mut.result.now at) in
     let old = c.self.invariant in
     let a = g.L.Label.algebra in
     let w : ℕ = c.args.worker in
@@ -106,7 +128,8 @@ invariant_of-self g c =
     } in
     let count : length (slice_set v.nodes c.args.id c.take_by.new.self) ≡ length v.nodes = length-set v.nodes c.args.id c.take_by.new.self in
     let more : length c.push_within.new.items.items ≡ length taken + 1 = ap length c.push_within.ensures.items ∙ length_push taken id in (
-      subst (λ xs. AreArranged a xs links heads (heap_items c.refresh.new.queue) c.push_within.new.items.items) (sym nodes) (subst (λ ks. AreArranged a (changed id (take_by w) v.nodes) links heads (heap_items c.refresh.new.queue) ks) (sym c.push_within.ensures.items) all),
+      subst (λ xs. AreArranged a xs links heads (heap_items c.refresh.new.queue) c.push_within.new.items.items) (sym nodes)
+          (subst (λ ks. AreArranged a (changed id (take_by w) v.nodes) links heads (heap_items c.refresh.new.queue) ks) (sym c.push_within.ensures.items) all),
       omega (arith, count, old.1),
       omega (arith, count, more, c.refresh.ensures.len, c.pop_ticket.ensures.len, old.2, c.push_within.new.items.ok.0, c.self.inside.taken.ok.0),
       old.3,
