@@ -151,7 +151,7 @@ fn try_apart<G: Gate, R: Threads + Wait + Sync>(
     requires few { length tasks.now ≤ 16 }
     ensures { IfOk result (λ found. (i : ℕ) (r : Contents × Answer) → slice_index_or found.items i None ≡ Some r
         → IsTaskTried (prioritised set.now.tasks course.now.old.now) standing.entry.ranks.now standing.entry.open_count (slice_index tasks.now i)
-            course.now.crew.now.effort.budget r.0 r.1) }
+        course.now.crew.now.effort.budget r.0 r.1) }
 {
     let Standing { ranks, open_count } = standing;
     let order = all_places(course.crew.alloc, tasks)?;

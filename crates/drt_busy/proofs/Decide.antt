@@ -100,7 +100,7 @@ module _ (tasks : List Task) (walks : ℕ → List ℕ) (k v : ℕ) where
   with_member (suc i) h = elim (cases_eq i k) [
     | inl e ↦
         (let here : Contains (releases_of (graph_at tasks k) k (with_job tasks walks k v k)) (release_at (graph_at tasks k) k 0 v) = subst
-            (λ w. Contains (releases_of (graph_at tasks k) k w) (release_at (graph_at tasks k) k 0 v)) (sym self_alone) one_release in
+        (λ w. Contains (releases_of (graph_at tasks k) k w) (release_at (graph_at tasks k) k 0 v)) (sym self_alone) one_release in
         Contains-append_right (all_releases tasks (with_job tasks walks k v) i) (releases_of (graph_at tasks i) i (with_job tasks walks k v i)) (release_at (graph_at tasks k) k 0 v)
         (subst (λ n. Contains (releases_of (graph_at tasks n) n (with_job tasks walks k v n)) (release_at (graph_at tasks k) k 0 v)) (sym e) here))
     | inr ne ↦ Contains-append_left (all_releases tasks (with_job tasks walks k v) i) (releases_of (graph_at tasks i) i (with_job tasks walks k v i))

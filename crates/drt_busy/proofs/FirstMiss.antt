@@ -28,7 +28,7 @@ same_task version tasks ok r s k l e =
     let tr : get_or tasks r.task k.task ≡ k.task = get_or_from_slice_get tasks r.task k.task k.task k.is_task in
     let ts : get_or tasks s.task k.task ≡ l.task = get_or_from_slice_get tasks s.task l.task k.task l.is_task in
     let same : (get_or tasks r.task k.task).priority ≡ (get_or tasks s.task k.task).priority = ap (λ x. x.priority) tr ∙ sym (priority_of_known tasks r k) ∙ e
-        ∙ priority_of_known tasks s l ∙ ap (λ x. x.priority) (sym ts) in
+    ∙ priority_of_known tasks s l ∙ ap (λ x. x.priority) (sym ts) in
     elim (cases_order r.task s.task) [
       | inl done' ↦ done'
       | inr (inl lt) ↦ absurd (ok.distinct_priorities r.task s.task k.task lt hs same)
@@ -107,11 +107,11 @@ module _ (version : ℕ) (tasks : List Task) (ok : IsTaskSet version tasks) (con
               let jj = job_at-jobs_of tasks rs j l in
               let k = release_known i here in
               let same' : (get_or rs i no_release).task ≡ (get_or rs j no_release).task = same_task version tasks ok (get_or rs i no_release) (get_or rs j no_release) k
-                  (release_known j l) (sym (ap (λ x. x.priority) ji) ∙ same ∙ ap (λ x. x.priority) jj) in
+              (release_known j l) (sym (ap (λ x. x.priority) ji) ∙ same ∙ ap (λ x. x.priority) jj) in
               let ti = ap (λ x. x.time) ji in
               let tj = ap (λ x. x.time) jj in
               let d : (job_at jobs i).deadline ≡ (get_or rs i no_release).time + k.vertex.deadline = ap (λ x. x.deadline) ji
-                  ∙ ap (λ x. (get_or rs i no_release).time + x) (deadline_of_known tasks (get_or rs i no_release) k) in
+              ∙ ap (λ x. (get_or rs i no_release).time + x) (deadline_of_known tasks (get_or rs i no_release) k) in
               elim (cases_order i j) [
                 | inl e ↦ absurd (ne e)
                 | inr (inl lt) ↦

@@ -28,7 +28,7 @@ module _ (jobs : List Job) where
   unfolding goes_before is_before is_higher
   higher_favoured j k i h g =
       let lt : (job_at jobs k).priority < (job_at jobs i).priority = omega
-          (arith, ltb-true (job_at jobs k).priority (job_at jobs j).priority h, ltb-false (job_at jobs i).priority (job_at jobs j).priority g) in
+      (arith, ltb-true (job_at jobs k).priority (job_at jobs j).priority h, ltb-false (job_at jobs i).priority (job_at jobs j).priority g) in
       rw (lt-ltb (job_at jobs k).priority (job_at jobs i).priority lt) refl
 
   -- a job that j doesn't go before is of a higher task, or of the same one and no later
@@ -109,7 +109,7 @@ module _ (jobs : List Job) where
       let p' = is_higher_or j in
       let (s, h, q, f) = last_quiet Fixed jobs p r in
       let higher : (n : ℕ) → s ≤ n → n < r
-          → is_pick_in p (pick Fixed jobs n) ≡ true = λ n l u. (let w = f (suc n) (omega arith) (omega arith) in busy_before Fixed jobs p (higher_favoured j) n w.0 w.1) in
+      → is_pick_in p (pick Fixed jobs n) ≡ true = λ n l u. (let w = f (suc n) (omega arith) (omega arith) in busy_before Fixed jobs p (higher_favoured j) n w.0 w.1) in
       let quiet : IsQuiet Fixed jobs p' s = λ i e l. elim (or_cases (is_higher j i) (eqb i j) (as_or j i e)) [
         | inl t ↦ q i t l
         | inr t ↦ absurd (omega (arith, ap (λ k. (job_at jobs k).time) (eqb-true i j t)))

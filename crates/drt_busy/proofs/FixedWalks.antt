@@ -134,12 +134,12 @@ module _ (version : ℕ) (tasks : List Task) (ok : IsTaskSet version tasks) (con
         let earlier_of_k : (i : ℕ) → i < j → (job_at jobs i).task ≡ (job_at jobs j).task → (get_or rs i no_release).task ≡ k =
         λ i lt same. sym (ap (λ x. x.task) (job_at-jobs_of tasks rs i (omega arith))) ∙ same ∙ ap (λ x. x.task) job ∙ of_k in
         let (earlier, start) = misses_pass_no_time version tasks ok constrained rs legal j h miss
-            (λ i lt same missed. none_misses pass m i (omega arith) (omega arith) (earlier_of_k i lt same) missed) in
+        (λ i lt same missed. none_misses pass m i (omega arith) (omega arith) (earlier_of_k i lt same) missed) in
         let (s, low, f) = start in
         let found : slice_get tasks k ≡ Some known_r.task = subst (λ n. slice_get tasks n ≡ Some known_r.task) of_k known_r.is_task in
         let task : task_at tasks k ≡ known_r.task = get_or_from_slice_get tasks k known_r.task no_task found in
         let here : r.vertex < length (task_at tasks k).vertices = subst (λ t. r.vertex < length t.vertices) (sym task)
-            (slice_get_within known_r.task.vertices r.vertex known_r.vertex known_r.is_vertex) in
+        (slice_get_within known_r.task.vertices r.vertex known_r.vertex known_r.is_vertex) in
         let vertex = ap (λ t. get_or t.vertices r.vertex no_vertex) task ∙ get_or_from_slice_get known_r.task.vertices r.vertex known_r.vertex no_vertex known_r.is_vertex in
         let priority : (job_at jobs j).priority ≡ (task_at tasks k).priority = ap (λ x. x.priority) job ∙ rw (known_r.is_task) (ap (λ t. t.priority) (sym task)) in
         let (t, one, due, fits) = pass r.vertex here (walk_from s) (are_walks s) in

@@ -75,8 +75,16 @@ module _ (tasks : List Task) (one : length tasks ≡ 1) (constrained : AreConstr
         let k = release_known j h in
         let job = job_at-jobs_of tasks rs j h in
         let d : (job_at (jobs_of tasks rs) j).deadline ≡ r.time + k.vertex.deadline = ap (λ x. x.deadline) job ∙ ap (λ x. r.time + x) (deadline_of_known tasks r k) in
-        omega (arith, m, d, ap (λ x. x.time) job, ap (λ x. x.need) job, job_fits r k, done-apart policy (jobs_of tasks rs) apart (job_at (jobs_of tasks rs) j).deadline j
-            (omega (arith, length-jobs_of tasks rs)))
+        omega (
+          arith,
+          m,
+          d,
+          ap (λ x. x.time) job,
+          ap (λ x. x.need) job,
+          job_fits r k,
+          done-apart policy (jobs_of tasks rs) apart (job_at (jobs_of tasks rs) j).deadline j
+              (omega (arith, length-jobs_of tasks rs)),
+        )
 
 -- where each vertex fits, no job misses
 pub schedulable_if_fits : (tasks : List Task) (policy : Policy) → length tasks ≡ 1 → AreConstrained tasks → All AllFit tasks → Schedulable tasks policy

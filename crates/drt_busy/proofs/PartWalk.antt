@@ -111,7 +111,7 @@ module _ (version : ℕ) (t : Task) (ok : IsTask version t) where
   part_due a d r (s ∷ rs) from due steps =
       let (e, later) = follows_edge r s (AllNeighbours-head (Follows t) r s rs steps) in
       let rest = part_due (a + gap (digraph_of t) r.vertex s.vertex) d s rs (omega arith) (All-tail (λ x. x.time + deadline (digraph_of t) x.vertex ≤ d) r (s ∷ rs) due)
-          (AllNeighbours-tail (Follows t) r (s ∷ rs) steps) in
+      (AllNeighbours-tail (Follows t) r (s ∷ rs) steps) in
       omega arith
 
   -- and so what is released before b is asked for by then

@@ -117,7 +117,7 @@ module _ (version : ℕ) (tasks : List Task) (ok : IsTaskSet version tasks) (con
     higher_needs j t at =
         let of : IsJobOf all_of k v j (release_at (graph_at tasks k) k 0 v) = record { at = at; task = refl; vertex = refl } in
         let e : (job_at (jobs_of tasks all_of) j).priority ≡ (task_at tasks k).priority = ap (λ (x : Job). x.priority)
-            (job_is all_of reach_legal j (release_at (graph_at tasks k) k 0 v) of) ∙ priority_here tasks k h 0 0 0 (release_at (graph_at tasks k) k 0 v) refl in
+        (job_is all_of reach_legal j (release_at (graph_at tasks k) k 0 v) of) ∙ priority_here tasks k h 0 0 0 (release_at (graph_at tasks k) k 0 v) refl in
         ap (λ p. needs (is_above p 0 t) (jobs_of tasks all_of)) e
         ∙ (releases_above version tasks ok (with_job tasks walks k v) (with_walks tasks walks k v are here) (task_at tasks k).priority t ∙ with_requests tasks walks k v (length tasks) t)
 

@@ -95,7 +95,7 @@ module _ (version : ℕ) (t : Task) (ok : IsTask version t) where
         (step_allowed x u v h path.0) (from_steps (x + gap (digraph_of t) u v) v [] (edge_to u v h path.0) path.1)
     from_steps x u (v ∷ (w ∷ vs)) h path =
         AllNeighbours-cons (IsAllowedStep tasks) (release_at (digraph_of t) k x u) (release_at (digraph_of t) k (x + gap (digraph_of t) u v) v)
-            (releases_from (digraph_of t) k (x + gap (digraph_of t) u v + gap (digraph_of t) v w) w vs)
+        (releases_from (digraph_of t) k (x + gap (digraph_of t) u v + gap (digraph_of t) v w) w vs)
         (step_allowed x u v h path.0) (from_steps (x + gap (digraph_of t) u v) v (w ∷ vs) (edge_to u v h path.0) path.1)
 
 -- the releases of task k are of task k
@@ -228,8 +228,13 @@ module _ (version : ℕ) (tasks : List Task) (ok : IsTaskSet version tasks) (wal
   sums_due constrained t due zero h = refl
   sums_due constrained t due (suc k) h =
       let f : Release → ℕ = λ r. cond (is_due 0 t (job_of tasks r)) r.need 0 in
-      omega (arith, sum_by-append f (all_releases tasks walks k) (releases_of (graph_at tasks k) k (walks k)), sums_due constrained t due k (omega arith), walk_due
-          version tasks ok k h constrained t (walks k) (are k h) (due k h))
+      omega (
+        arith,
+        sum_by-append f (all_releases tasks walks k) (releases_of (graph_at tasks k) k (walks k)),
+        sums_due constrained t due k (omega arith),
+        walk_due
+            version tasks ok k h constrained t (walks k) (are k h) (due k h),
+      )
 
   -- by t the releases of walks that are due by t need all their work
   pub releases_due : AreConstrained tasks → (t : ℕ) → AreDueBy tasks walks t → needs (is_due 0 t) (jobs_of tasks (all_releases tasks walks (length tasks))) ≡ efforts tasks walks (length tasks)

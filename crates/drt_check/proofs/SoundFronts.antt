@@ -103,7 +103,7 @@ all_within [] sound constrained bound t fronts count openings closed near walks 
 all_within (x ∷ tasks) sound constrained bound t [] count openings closed near walks are by = absurd (omega arith)
 all_within (x ∷ tasks) sound constrained bound t (f ∷ fronts) count openings closed near walks are by =
     let first = one_within (digraph_of x) (sound 0 (digraph_of x) (omega arith)) (constrained 0 (digraph_of x) (omega arith)) bound t f openings.0 closed.0 near (walks 0)
-        (are 0 (omega arith)) (by 0 (omega arith)) in
+    (are 0 (omega arith)) (by 0 (omega arith)) in
     let others = all_within tasks (λ k d l. sound (suc k) d (omega arith)) (λ k d l. constrained (suc k) d (omega arith)) bound t fronts (omega arith) openings.1 closed.1
-        near (λ k. walks (suc k)) (λ k l. are (suc k) (omega arith)) (λ k l. by (suc k) (omega arith)) in
+    near (λ k. walks (suc k)) (λ k l. are (suc k) (omega arith)) (λ k l. by (suc k) (omega arith)) in
     rw (efforts_cons x tasks walks (length tasks)) (omega (arith, first, others))

@@ -32,7 +32,7 @@ all_walks (x ∷ tasks) [] scale t walks sound count fits divides are due = absu
 all_walks (x ∷ tasks) (c ∷ claims) scale t walks sound count fits divides are due =
     let first = one_walk (digraph_of x) c.num c.den c.potentials scale t (walks 0) (sound 0 (digraph_of x) (omega arith)) fits.0 divides.0 (are 0 (omega arith)) (due 0 (omega arith)) in
     let others = all_walks tasks claims scale t (λ k. walks (suc k)) (λ k d l. sound (suc k) d (omega arith)) (omega arith) fits.1 divides.1
-        (λ k l. are (suc k) (omega arith)) (λ k l. due (suc k) (omega arith)) in
+    (λ k l. are (suc k) (omega arith)) (λ k l. due (suc k) (omega arith)) in
     rw (efforts_cons x tasks walks (length tasks)) (omega (arith, first, others))
 
 -- In plain numbers.
@@ -53,4 +53,4 @@ within_horizon tasks claims bound sound count fits below is t walks are due over
         let same : below.0 ≡ is.0 = scale_same (fractions claims) below.0 is.0 below.1 is.1 in
         let under : rate is.0 (fractions claims) < is.0 = subst (λ n. rate n (fractions claims) < n) same below.2 in
         absurd (past is.0 (rate is.0 (fractions claims)) (extra is.0 (graphs_of tasks) (fractions claims) (potentials claims)) t (efforts tasks walks (length tasks))
-            under (rw is.2 at far) (all_walks tasks claims is.0 t walks sound count fits is.1.multiple are due) over)
+        under (rw is.2 at far) (all_walks tasks claims is.0 t walks sound count fits is.1.multiple are due) over)

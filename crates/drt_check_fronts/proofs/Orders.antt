@@ -150,5 +150,5 @@ next_more xs i e some l so_far here k d m = go (cases_lt (k + 1) i)
         let first : get_or xs (i - 1) e ≡ get_or xs (i - 1) d = get_or_default xs (i - 1) e d (omega arith) in
         let second : get_or xs i e ≡ get_or xs i d = get_or_default xs i e d l in
         let both : IsNextEntry (get_or xs (i - 1) d) (get_or xs i d) = subst (λ (y : FrontEntry). IsNextEntry y (get_or xs i d)) first
-            (subst (λ (y : FrontEntry). IsNextEntry (get_or xs (i - 1) e) y) second here) in
+        (subst (λ (y : FrontEntry). IsNextEntry (get_or xs (i - 1) e) y) second here) in
         subst (λ (n : ℕ). IsNextEntry (get_or xs n d) (get_or xs (k + 1) d)) a (subst (λ (n : ℕ). IsNextEntry (get_or xs (i - 1) d) (get_or xs n d)) b both)

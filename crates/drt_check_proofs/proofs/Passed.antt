@@ -39,7 +39,7 @@ passed trees width (Split place ∷ items) (nodes ∷ stack) last wide e = go (a
         → ((next : List (List ℕ)) → AreWide width next → after_all trees items (Some next) ≡ Some last
         → Passed trees width (passing_times items) (passes trees items (Some next)) (λ i tree. passes_at tree i items (Some (at_place i next))))
         → Passed trees width (passing_times (Split place ∷ items)) (passes trees (Split place ∷ items) (Some (nodes ∷ stack)))
-            (λ i tree. passes_at tree i (Split place ∷ items) (Some (at_place i (nodes ∷ stack))))
+        (λ i tree. passes_at tree i (Split place ∷ items) (Some (at_place i (nodes ∷ stack))))
     go None was h more = absurd (cc)
     go (Some next) was h more =
         let step : Stepped trees width (Split place) (nodes ∷ stack) next = stepped trees width (Split place) (nodes ∷ stack) next wide was in

@@ -85,7 +85,7 @@ shape_decides trees count width items e = (
       ),
   λ both. (
       let r = replays trees width items (opening_stack trees count) 0 (omega arith) wide both.0
-          (λ i tree l at. rw (begins_at trees count i tree (omega arith) at (omega arith)) (both.1 i tree l at)) in
+      (λ i tree l at. rw (begins_at trees count i tree (omega arith) at (omega arith)) (both.1 i tree l at)) in
       rw r.1 (ap (λ (s : List (List ℕ)). Some s) (nil_from_length r.0 r.2))
       ),
 )

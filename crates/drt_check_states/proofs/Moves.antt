@@ -45,7 +45,7 @@ module _ {E A : Type 0} (R : A → ℕ → Type 0) (f : E → A) (p : E → Bool
     first_fits : next < length ns → Fit (drop k es) (drop next ns) → R (f x) (get_or ns next 0) × Fit (drop (k + 1) es) (drop (next + 1) ns)
     first_fits m fit =
         subst (λ (ms : List ℕ). AllZip R (f x ∷ map f (filter p (drop (k + 1) es))) ms) (drop_more ns next 0 m)
-            (subst (λ (ks : List E). AllZip R (map f ks) (drop next ns)) (left_yes es k d x l at t) fit)
+        (subst (λ (ks : List E). AllZip R (map f ks) (drop next ns)) (left_yes es k d x l at t) fit)
 
     fits_first : next < length ns → R (f x) (get_or ns next 0) × Fit (drop (k + 1) es) (drop (next + 1) ns) → Fit (drop k es) (drop next ns)
     fits_first m both =

@@ -84,7 +84,7 @@ pub codes_are_right : AreRight by_code × AreRight by_limit × AreRight by_order
 unfolding with_run lines_after is_blank fields_after is_skipped is_text is_digit is_name_byte is_name is_number value_after
     classic_kind is_named in_last has_classic_task classic_task_count is_open is_full first_that_holds sporadic_fault multiframe_fault open_fault frame_fault classic_end_fault classic_kind_fault
     fault_of_line classic_said_by with_last_classic with_frame add_frame after_classic_line unless is_head classic_line_step classic_step classic_steps has_no_frame
-        first_without_frame classic_closing classic_finish read_classic_text classic_fault_of
+    first_without_frame classic_closing classic_finish read_classic_text classic_fault_of
 codes_are_right = (refl, refl, refl)
 
 -- The frames of an example.

@@ -33,9 +33,11 @@ module _ (numbers : List ℕ) (columns : List (List ℕ)) (count : ℕ) where
   -- a sample of a slot is less, so that of the entry there is
   ruled : (samples : List ℕ) (k slot : ℕ) (e : KeptLabel) → slice_get (first_entries numbers columns count) slot ≡ Some e
       → slice_index (get_or columns k []) slot < slice_index samples k → IsRuledOut samples e
-  ruled samples k slot e at less =
-      (k, let is : slice_index (samples_at columns slot) k ≡ slice_index e.samples k = ap (λ (x : KeptLabel). slice_index x.samples k) (entry_found slot e at) in
-          omega (arith, sample_is columns slot k))
+  ruled samples k slot e at less = (
+    k,
+    let is : slice_index (samples_at columns slot) k ≡ slice_index e.samples k = ap (λ (x : KeptLabel). slice_index x.samples k) (entry_found slot e at) in
+        omega (arith, sample_is columns slot k),
+  )
 
   -- a mask after one column more
   pub mask_next : (samples mask next : List ℕ) (k : ℕ) → IsMask (first_entries numbers columns count) samples mask

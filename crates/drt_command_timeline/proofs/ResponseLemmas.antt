@@ -90,7 +90,7 @@ err_then to (Err e) h = to e h
 -- The response of a spot is drawn, or it isn't reached.
 pub spot_draws : (svg : Bool) (task vertex : List ℕ) (tasks : List Task) (responses : List Response) (k v : ℕ) (r : Response) → IsSpot tasks task vertex k v → response_of k v responses ≡ Some r
     → (made : Report) → IsReachedResponse tasks r → IsDrawn svg tasks Fixed r.releases r.ticks made.text → (made.status ≡ 0) × (made.trail ≡ trails.Nothing)
-        → DrawsIn svg task vertex tasks responses made
+    → DrawsIn svg task vertex tasks responses made
 spot_draws svg task vertex tasks responses k v r spot is made reached drawn made_is = record {
   response = r;
   shown = record { k = k; v = v; spot = spot; response = is; reached = reached };

@@ -141,7 +141,7 @@ claims_in_range [] (p ∷ proofs) sound given = absurd given
 claims_in_range (g ∷ graphs) [] sound given = absurd given
 claims_in_range (g ∷ graphs) (p ∷ proofs) sound given =
     all_cons IsInRangeRatio (claim_of p) (claims_of proofs) (claim_in_range g p (head_of IsSoundGraph g graphs sound) given.0)
-        (claims_in_range graphs proofs (tail_of IsSoundGraph g graphs sound) given.1)
+    (claims_in_range graphs proofs (tail_of IsSoundGraph g graphs sound) given.1)
 
 -- The ratio at a place of a list of small ones.
 pub small_at : (proofs : List RatioProof) → AreSmall proofs → (k : ℕ) (d : RatioProof) → k < length proofs → ((get_or proofs k d).ratio.num ≤ 1000000000) × ((get_or proofs k d).ratio.den ≤ 1000000000)

@@ -134,7 +134,7 @@ unfit_at bytes left line h at =
     = ap (λ n. first_lines n bytes) number ∙ line_more bytes ls r.line r.others h.lines.no_feeds r.no_feed whole ∙ ap (λ t. t ++ (r.line ++ 10 ∷ [])) (sym h.lines.are) in
     let count = ap line_count stands ∙ count_fed ls h.tail h.lines.no_feeds in
     let one_more = ap line_count r.cut ∙ ap line_count (sym (append_assoc r.line (10 ∷ []) r.others))
-        ∙ ap line_count (ap (λ t. t ++ r.others) (sym (append-nil (r.line ++ 10 ∷ [])))) ∙ count_fed (r.line ∷ []) r.others (r.no_feed, tt) in
+    ∙ ap line_count (ap (λ t. t ++ r.others) (sym (append-nil (r.line ++ 10 ∷ [])))) ∙ count_fed (r.line ∷ []) r.others (r.no_feed, tt) in
     record {
       here = inr (λ p. r.refused p.0 p.1 [] p.2.stated (ap (λ t. t ++ p.1) (sym first) ∙ p.2.is ∙ sym (append-nil (text p.0))));
       least = λ n lt. keep bytes ls h.tail h.lines.no_feeds stands (λ never. h.begins (λ s after is e. never s after is (e ∙ ap (λ t. t ++ after) h.lines.are))) n (omega (arith, lt, at));
@@ -166,7 +166,7 @@ followed_at bytes s b rest line r at =
     let w = some_first b rest in
     let first : first_lines line bytes ≡ text s ++ (b ∷ w.0)
     = ap (λ n. first_lines n bytes) number ∙ ap (first_lines (length ls + 1)) stands ∙ first_more ls (b ∷ rest) 1 r.lines.no_feeds ∙ ap (λ t. fed ls ++ t) w.1
-        ∙ ap (λ t. t ++ (b ∷ w.0)) (sym r.lines.are) in (
+    ∙ ap (λ t. t ++ (b ∷ w.0)) (sym r.lines.are) in (
       λ t is. longer t b rest is.stated (sym r.stands ∙ is.is),
       record {
         here = inr (λ p. longer p.0 b (w.0 ++ p.1) p.2.stated (sym (append_assoc (text s) (b ∷ w.0) p.1) ∙ ap (λ t. t ++ p.1) (sym first) ∙ p.2.is));

@@ -188,7 +188,7 @@ pub list_uncounted : {A : Type 0} (f : A → List ℕ) (P : A → Type 0) (bytes
     → IsNoForm decimal IsNumber field → IsNoForm (list_form f) (AreItemsCounted P) bytes
 list_uncounted f P bytes field others alone cut not ys are e =
     not (length ys) are.1
-        (cut_same field (decimal (length ys)) (spaced others) (behind (map f ys)) alone (number_no_space (length ys) are.1) (spaced_behind others) (fields_behind (map f ys)) (sym cut ∙ e)).0
+    (cut_same field (decimal (length ys)) (spaced others) (behind (map f ys)) alone (number_no_space (length ys) are.1) (spaced_behind others) (fields_behind (map f ys)) (sym cut ∙ e)).0
 
 pub list_broken : {A : Type 0} (f : A → List ℕ) (P : A → Type 0) (bytes field : List ℕ) (others : Option (List ℕ)) → HasNoSpace field → bytes ≡ field ++ spaced others
     → IsNoForm (λ ys. behind (map f ys)) (All P) (spaced others) → IsNoForm (list_form f) (AreItemsCounted P) bytes
@@ -208,7 +208,7 @@ bounded_no_space most fits n le = decimal_no_space n (omega (arith, le, fits))
 -- A line whose value is its one part.
 pub line_found : {A : Type 0} {word : List ℕ} {form : A → List ℕ} {In : A → Type 0} {fields : A → List (List ℕ)} → IsShape word form In fields In (λ x. x)
     → (line rest : List ℕ) (o : Option A) → line ≡ word ++ 32 ∷ rest → MatchOption o (IsNoForm form In rest) (λ x. IsForm form In rest x)
-        → MatchOption o (IsNoLine fields In line) (λ x. IsLineOf fields In line x)
+    → MatchOption o (IsNoLine fields In line) (λ x. IsLineOf fields In line x)
 line_found {A} {word} {form} {In} {fields} shape line rest None opens not = line_broken shape line rest opens not
 line_found {A} {word} {form} {In} {fields} shape line rest (Some x) opens is = line_is shape line rest x x opens is refl
 

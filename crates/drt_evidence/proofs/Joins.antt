@@ -35,7 +35,7 @@ pub three_lines : (start a b c : List ℕ) (x y z : List (List ℕ)) → a ≡ s
 three_lines start a b c x y z p q r =
     r ∙ ap (λ t. t ++ written_line z) (two_lines start a b x y p q)
     ∙ (let flat : (start ++ (written_line x ++ (written_line y ++ []))) ++ written_line z ≡ start ++ (written_line x ++ (written_line y ++ (written_line z ++ []))) = simp
-        (append_assoc, append-nil) in flat)
+    (append_assoc, append-nil) in flat)
 
 -- The lines above the set, the set's text, and the lines below it are the whole text.
 pub whole : (d : Statement) (a b c e : List ℕ) → a ≡ [] → b ≡ a ++ written (head_lines d.policy) → c ≡ b ++ canonical d.set → e ≡ c ++ written (evidence_lines d.evidence)

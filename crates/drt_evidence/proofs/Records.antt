@@ -499,14 +499,22 @@ kind_parts e is = (
 
 some_of : (k : KindOfEvidence) → IsAny k → (e : Evidence) × IsEvidenceInRange e × (kind_of e ≡ k)
 some_of kinds.EdfYes is = (EdfYes [] [], ((All-nil IsInRangeRatio, lit≤ tt), (All-nil IsInRangeFront, lit≤ tt)), refl)
-some_of kinds.EdfNo is = (EdfNo [] (record { task = 0; index = 0; deadline = 0 }), record
-    { each = All-nil IsInRangeRelease; counted = lit≤ tt; named = record { task = lit≤ tt; index = lit≤ tt; deadline = lit≤ tt } }, refl)
+some_of kinds.EdfNo is = (
+  EdfNo [] (record { task = 0; index = 0; deadline = 0 }),
+  record
+      { each = All-nil IsInRangeRelease; counted = lit≤ tt; named = record { task = lit≤ tt; index = lit≤ tt; deadline = lit≤ tt } },
+  refl,
+)
 some_of kinds.UtilisationOne is = (UtilisationOne [], (All-nil IsInRangeRatio, lit≤ tt), refl)
 some_of kinds.FixedYes is = (FixedYes [] [], ((All-nil IsInRangeTree, lit≤ tt), (All-nil IsInRangeProof, lit≤ tt)), refl)
 some_of kinds.FixedStates is = (FixedStates [] [], ((All-nil IsInRangeTail, lit≤ tt), (All-nil IsInRangeSearch, lit≤ tt)), refl)
 some_of kinds.FixedNo
-    is = (FixedNo [] (record { task = 0; index = 0; deadline = 0 }), record
-    { each = All-nil IsInRangeRelease; counted = lit≤ tt; named = record { task = lit≤ tt; index = lit≤ tt; deadline = lit≤ tt } }, refl)
+    is = (
+      FixedNo [] (record { task = 0; index = 0; deadline = 0 }),
+      record
+          { each = All-nil IsInRangeRelease; counted = lit≤ tt; named = record { task = lit≤ tt; index = lit≤ tt; deadline = lit≤ tt } },
+      refl,
+    )
 some_of kinds.Undecided is = (Undecided, tt, refl)
 
 pub kind_stop : {bytes : List ℕ} {e : Stop} → IsStop (λ y. written_line (kind_line y)) IsAny bytes e → IsStop (λ x. written (evidence_lines x)) IsEvidenceInRange bytes e

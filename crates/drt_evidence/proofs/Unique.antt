@@ -185,7 +185,7 @@ two_alone : {X V W : Type 0} {T : X → List ℕ} {D : X → Type 0} {A : V → 
 two_alone {X} {V} {W} {T} {D} {A} {F} {B} {G} two one other x y s t ix iy e =
     let cut : A (two.first x) ++ (B (two.second x) ++ s) ≡ A (two.first y) ++ (B (two.second y) ++ t)
     = sym (append_assoc (A (two.first x)) (B (two.second x)) s) ∙ ap (λ w. w ++ s) (sym (two.block_is x ix)) ∙ e ∙ ap (λ w. w ++ t) (two.block_is y iy)
-        ∙ append_assoc (A (two.first y)) (B (two.second y)) t in
+    ∙ append_assoc (A (two.first y)) (B (two.second y)) t in
     let first : two.first y ≡ two.first x = one (two.first x) (two.first y) (B (two.second x) ++ s) (B (two.second y) ++ t) (two.first_is x ix) (two.first_is y iy) cut in
     let tail : B (two.second x) ++ s ≡ B (two.second y) ++ t
     = append_cancel_left (A (two.first x)) (B (two.second x) ++ s) (B (two.second y) ++ t) (cut ∙ ap (λ v. A v ++ (B (two.second y) ++ t)) first) in
@@ -195,8 +195,8 @@ two_alone {X} {V} {W} {T} {D} {A} {F} {B} {G} two one other x y s t ix iy e =
 one_alone : {X V : Type 0} {T : X → List ℕ} {D : X → Type 0} {A : V → List ℕ} {F : V → Type 0} → One T D A F → Alone A F → Alone T D
 one_alone part alone x y s t ix iy e =
     part.made y iy ∙ ap part.make
-        (alone (part.part x) (part.part y) s t (part.part_is x ix) (part.part_is y iy)
-        (ap (λ w. w ++ s) (sym (part.block_is x ix)) ∙ e ∙ ap (λ w. w ++ t) (part.block_is y iy))) ∙ sym (part.made x ix)
+    (alone (part.part x) (part.part y) s t (part.part_is x ix) (part.part_is y iy)
+    (ap (λ w. w ++ s) (sym (part.block_is x ix)) ∙ e ∙ ap (λ w. w ++ t) (part.block_is y iy))) ∙ sym (part.made x ix)
 
 -- Blocks one after another.
 turn_alone : {X : Type 0} (T : X → List ℕ) (D : X → Type 0) → Alone T D → (xs ys : List X) (s t : List ℕ) → length xs ≡ length ys → AllByRecursion D xs
@@ -217,7 +217,7 @@ counted_alone : {X : Type 0} (word : List ℕ) (T : X → List ℕ) (D : X → T
 counted_alone word T D kind alone xs ys s t ix iy e =
     let line = λ (n : ℕ). written_line (count_line word n) in
     let cut : line (length xs) ++ (in_turn T xs ++ s) ≡ line (length ys) ++ (in_turn T ys ++ t) = sym (append_assoc (line (length xs)) (in_turn T xs) s) ∙ e
-        ∙ append_assoc (line (length ys)) (in_turn T ys) t in
+    ∙ append_assoc (line (length ys)) (in_turn T ys) t in
     let size : length ys ≡ length xs = count_alone word kind (length xs) (length ys) (in_turn T xs ++ s) (in_turn T ys ++ t) ix.1 iy.1 cut in
     let tail : in_turn T xs ++ s ≡ in_turn T ys ++ t = append_cancel_left (line (length xs)) (in_turn T xs ++ s) (in_turn T ys ++ t) (cut ∙ ap (λ n. line n ++ (in_turn T ys ++ t)) size) in
     turn_alone T D alone xs ys s t (sym size) (recursion_from_All D xs ix.0) (recursion_from_All D ys iy.0) tail
@@ -251,7 +251,7 @@ miss_alone : Alone (λ m. written_line (miss_line m)) IsInRangeMiss
 miss_alone =
     shape_alone miss_shape miss_kind
     (pair_tells decimal IsNumber (pair_form decimal decimal) (AreBoth IsNumber IsTick) number_no_space number_tells
-        (pair_tells decimal IsNumber decimal IsTick number_no_space number_tells tick_tells))
+    (pair_tells decimal IsNumber decimal IsTick number_no_space number_tells tick_tells))
 
 pair_alone : Alone (λ p. written_line (pair_line p)) IsInRangePair
 pair_alone = shape_alone pair_shape pair_kind (pair_tells decimal IsNumber decimal IsNumber number_no_space number_tells number_tells)

@@ -203,7 +203,7 @@ body_agrees version (x ∷ vs) es ws has are among rest =
     agrees_next (Below (In version Ready)) (In version Vertices) (vertex_line x) (map vertex_line vs ++ (map (edge_line (x ∷ vs)) es ++ ws)) (vertex_fits version x are.0)
     (vertices_agree version vs (map (edge_line (x ∷ vs)) es ++ ws) are.1
     (agrees_weaker (Below (In version Vertices)) (Below (In version Whole)) (map (edge_line (x ∷ vs)) es ++ ws)
-        (λ o (s, is, (v, (d, at, (p, no_es, some)))). (s, is, (v, (d, at, is_vertices d p some))))
+    (λ o (s, is, (v, (d, at, (p, no_es, some)))). (s, is, (v, (d, at, is_vertices d p some))))
     (edges_agree version (x ∷ vs) es ws among rest)))
 
 task_agrees : (version : ℕ) (t : Task) (ws : List (List (List ℕ))) → IsVersion version → IsTask version t → Agrees (Below (In version Whole)) ws
@@ -211,11 +211,11 @@ task_agrees : (version : ℕ) (t : Task) (ws : List (List (List ℕ))) → IsVer
 unfolding task_lines lines_of_body priority_lines
 task_agrees version t ws known is rest =
     let body = body_agrees version t.vertices t.edges ws is.has_vertex (recursion_from_All IsVertex t.vertices is.vertices)
-        (recursion_from_All (IsEdgeAmong (length t.vertices)) t.edges is.edges) rest in
+    (recursion_from_All (IsEdgeAmong (length t.vertices)) t.edges is.edges) rest in
     let own = map vertex_line t.vertices ++ (map (edge_line t.vertices) t.edges ++ ws) in
     subst (λ l. Agrees (Below (Open version)) (task_line t ∷ l)) (cut (priority_lines version t) (map vertex_line t.vertices) (map (edge_line t.vertices) t.edges) ws)
     (agrees_next (Below (Open version)) (λ s. In version Named s × ((version ≡ 1) → In version Ready s)) (task_line t) (priority_lines version t ++ own)
-        (task_fits version t known) (below own known body))
+    (task_fits version t known) (below own known body))
   where
     cut : (p a b c : List (List (List ℕ))) → p ++ (a ++ (b ++ c)) ≡ (p ++ (a ++ b)) ++ c
     cut p a b c = ap (λ l. p ++ l) (sym (append_assoc a b c)) ∙ sym (append_assoc p (a ++ b) c)

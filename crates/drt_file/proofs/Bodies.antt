@@ -136,7 +136,7 @@ vertex_one version done name p vs es v wcet deadline mw ml parts n above line at
     let stand : d.vertices ≡ vs = vertices_are d name p vs es at.core_is in
     let new_names = (pairs_pop (λ u w. u.name ≢ w.name) vs v parts.names).1 in
     let new_vs : has_vertex v.name vs ≡ false = any_of_every (λ u. bytes_eq u.name v.name) vs
-        (every_weaker (λ u. u.name ≢ v.name) (λ u. bytes_eq u.name v.name ≡ false) (λ u h. unlike u.name v.name h) vs new_names) in
+    (every_weaker (λ u. u.name ≢ v.name) (λ u. bytes_eq u.name v.name ≡ false) (λ u h. unlike u.name v.name h) vs new_names) in
     let new : has_vertex v.name d.vertices ≡ false = ap (has_vertex v.name) stand ∙ new_vs in
     let grown = one_more vs v in
     let few = parts.few in
@@ -284,21 +284,21 @@ pub body_leads : (version k : ℕ) (done : List Task) (name : List ℕ) (body : 
 body_leads version k done name body vs es p nothing parts allowed = leads_none (In version done (name, held version k None, [], []))
 body_leads version k done name body vs es p (vertex body2 vs2 es2 p2 words v says (wcet, deadline, are, mw, ml)) parts allowed =
     leads_then (In version done (name, held version k None, [], [])) (In version done (name, held version k p2, vs2, es2))
-        (In version done (name, held version k p2, vs2 ++ v ∷ [], es2)) body2 (words ∷ [])
+    (In version done (name, held version k p2, vs2 ++ v ∷ [], es2)) body2 (words ∷ [])
     (body_leads version k done name body2 vs2 es2 p2 says (parts_vertex version vs2 v es2 parts) allowed)
     (subst (λ w. Leads (In version done (name, held version k p2, vs2, es2)) (w ∷ []) (In version done (name, held version k p2, vs2 ++ v ∷ [], es2))) (sym are)
     (leads_one (In version done (name, held version k p2, vs2, es2)) (In version done (name, held version k p2, vs2 ++ v ∷ [], es2)) (vertex_word ∷ v.name ∷ wcet ∷ deadline ∷ [])
     (vertex_one version done name (held version k p2) vs2 es2 v wcet deadline mw ml parts)))
 body_leads version k done name body vs es p (edge body2 vs2 es2 p2 words e says (from, to, sep, at_from, at_to, are, m)) parts allowed =
     leads_then (In version done (name, held version k None, [], [])) (In version done (name, held version k p2, vs2, es2))
-        (In version done (name, held version k p2, vs2, es2 ++ e ∷ [])) body2 (words ∷ [])
+    (In version done (name, held version k p2, vs2, es2 ++ e ∷ [])) body2 (words ∷ [])
     (body_leads version k done name body2 vs2 es2 p2 says (parts_edge version vs2 e es2 parts) allowed)
     (subst (λ w. Leads (In version done (name, held version k p2, vs2, es2)) (w ∷ []) (In version done (name, held version k p2, vs2, es2 ++ e ∷ []))) (sym are)
     (leads_one (In version done (name, held version k p2, vs2, es2)) (In version done (name, held version k p2, vs2, es2 ++ e ∷ [])) (edge_word ∷ from.name ∷ to.name ∷ sep ∷ [])
     (edge_one version done name (held version k p2) vs2 es2 e from to sep at_from at_to m parts)))
 body_leads version k done name body vs es p (priority body2 vs2 es2 words n says (number, are, m)) parts allowed =
     leads_then (In version done (name, held version k None, [], [])) (In version done (name, held version k None, vs2, es2))
-        (In version done (name, held version k (Some n), vs2, es2)) body2 (words ∷ [])
+    (In version done (name, held version k (Some n), vs2, es2)) body2 (words ∷ [])
     (body_leads version k done name body2 vs2 es2 None says parts (λ j e. absurd (cc)))
     (subst (λ w. Leads (In version done (name, held version k None, vs2, es2)) (w ∷ []) (In version done (name, held version k (Some n), vs2, es2))) (sym are)
     (leads_one (In version done (name, held version k None, vs2, es2)) (In version done (name, held version k (Some n), vs2, es2)) (priority_word ∷ number ∷ [])

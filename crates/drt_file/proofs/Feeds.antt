@@ -115,7 +115,7 @@ either_front (x ∷ xs) (y ∷ ys) us ws nx ny e = go (either_front xs ys us ws 
 
     go : ((more : List (List ℕ)) × (xs ≡ ys ++ more)) ⊎ ((line : List ℕ) × (more : List (List ℕ)) × (ys ≡ xs ++ line ∷ more) × HasNoFeed line × (us ≡ line ++ 10 ∷ (fed more ++ ws)))
         → ((more : List (List ℕ)) × (x ∷ xs ≡ y ∷ (ys ++ more))) ⊎
-            ((line : List ℕ) × (more : List (List ℕ)) × (y ∷ ys ≡ x ∷ (xs ++ line ∷ more)) × HasNoFeed line × (us ≡ line ++ 10 ∷ (fed more ++ ws)))
+        ((line : List ℕ) × (more : List (List ℕ)) × (y ∷ ys ≡ x ∷ (xs ++ line ∷ more)) × HasNoFeed line × (us ≡ line ++ 10 ∷ (fed more ++ ws)))
     go (inl (more, is)) = inl (more, ap (λ t. t ∷ xs) same.0 ∙ ap (λ t. y ∷ t) is)
     go (inr (line, more, is, none, rest)) = inr (line, more, ap (λ t. t ∷ ys) (sym same.0) ∙ ap (λ t. x ∷ t) is, none, rest)
 

@@ -81,7 +81,7 @@ kind_after ws n s words kinds.Task k e still stands =
     = task_goes ws n s words p is s.current refl stands in
     subst (λ l. Follows (ws ++ words ∷ []) (Some (after_kind kinds.Task n s l))) (sym p.words_are)
     (subst (λ b. StandsAt b (ws ++ words ∷ []) s.version (with_last s.closed s.current)
-        (Some (record { name = p.name; line = n; priority = opening_priority s; vertices = []; edges = [] }))) (sym still) goes)
+    (Some (record { name = p.name; line = n; priority = opening_priority s; vertices = []; edges = [] }))) (sym still) goes)
 kind_after ws n s words kinds.Vertex k e still stands =
     let p = vertex_passed s words e in
     let is = vertex_kind s.version p.word (ap (λ l. kind s.version (first_word l)) (sym p.words_are) ∙ k) in
@@ -101,7 +101,7 @@ kind_after ws n s words kinds.Priority k e still stands =
     let is = priority_kind s.version p.word (ap (λ l. kind s.version (first_word l)) (sym p.words_are) ∙ k) in
     let change = with_priority (capped p.number) in
     let goes = out_task (ws ++ words ∷ []) s.version s.closed change s.current p.draft p.in_a_task
-        (priority_goes ws s words p is.0 is.1 (in_task ws s.version s.closed s.current p.draft p.in_a_task stands)) in
+    (priority_goes ws s words p is.0 is.1 (in_task ws s.version s.closed s.current p.draft p.in_a_task stands)) in
     subst (λ l. Follows (ws ++ words ∷ []) (Some (after_kind kinds.Priority n s l))) (sym p.words_are)
     (subst (λ b. StandsAt b (ws ++ words ∷ []) s.version s.closed (option_map change s.current)) (sym still) goes)
 kind_after ws n s words kinds.End k e still stands =

@@ -68,7 +68,7 @@ finished ls n s none taken ended =
     let finish_is : finish n (Some s) ≡ Ok (set_of s) = ap (λ r. r >>= λ es. Ok (record { version = s.version; tasks = map task_of es })) closed in
     let reads : read_text (fed ls) ≡ Ok (set_of s)
     = ap (λ l. steps 1 None l >>= λ (x : ℕ × Option State). finish x.0 x.1) (fed_lines ls none) ∙ ap (λ r. r >>= λ (x : ℕ × Option State). finish x.0 x.1)
-        (plain_steps ls 1 n None (Some s) taken) ∙ finish_is in
+    (plain_steps ls 1 n None (Some s) taken) ∙ finish_is in
     record {
       limits = (read_says (fed ls) (set_of s) reads).limits;
       fed_is = sym went.0 ∙ ap (λ b. written (lines_of s.version ds b)) ended ∙ ap (λ l. written (version_line s.version ∷ (l ++ end_line ∷ []))) (drafts_print s.version ds every);

@@ -369,7 +369,7 @@ steps_went (line ∷ ls) n m above below good e =
     let so_far = written (state_lines above) in (
       rest.0 ∙ ap (λ l. written l ++ fed ls) went.lines
           ∙ ap (λ l. l ++ fed ls) (flat_map-append written_line (state_lines above) (fields line ∷ []) ∙ ap (λ r. so_far ++ r) (append-nil (written_line (fields line)))
-              ∙ ap (λ t. so_far ++ (t ++ 10 ∷ [])) joined)
+          ∙ ap (λ t. so_far ++ (t ++ 10 ∷ [])) joined)
           ∙ append_assoc so_far (line ++ 10 ∷ []) (fed ls),
       rest.1,
     )

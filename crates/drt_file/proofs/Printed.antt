@@ -53,9 +53,11 @@ tasks_stay : (version : ℕ) (ts : List Task) → AllByRecursion Stays (flat_map
 unfolding task_lines lines_of_body is_skipped
 tasks_stay version [] = tt
 tasks_stay version (t ∷ ts) =
-    all_of_both Stays (task_lines version t) (flat_map (task_lines version) ts)
-    (refl, all_of_both Stays (priority_lines version t) (lines_of_body t) (priority_stays version t)
-        (all_of_both Stays (map vertex_line t.vertices) (map (edge_line t.vertices) t.edges) (vertices_stay t.vertices) (edges_stay t.vertices t.edges)))
+    all_of_both Stays (task_lines version t) (flat_map (task_lines version) ts) (
+      refl,
+      all_of_both Stays (priority_lines version t) (lines_of_body t) (priority_stays version t)
+          (all_of_both Stays (map vertex_line t.vertices) (map (edge_line t.vertices) t.edges) (vertices_stay t.vertices) (edges_stay t.vertices t.edges)),
+    )
     (tasks_stay version ts)
 
 pub set_stays : (set : Contents) → AllByRecursion Stays (set_lines set)
@@ -84,7 +86,7 @@ edge_said vs body es p e is says =
     let to = get_or vs e.to nobody in
     let line : edge_line vs e ≡ edge_word ∷ from.name ∷ to.name ∷ decimal e.sep ∷ []
     = ap (λ n. edge_word ∷ n ∷ name_at vs e.to ∷ decimal e.sep ∷ []) (name_at_is vs e.from nobody is.from) ∙ ap (λ n. edge_word ∷ from.name ∷ n ∷ decimal e.sep ∷ [])
-        (name_at_is vs e.to nobody is.to) in
+    (name_at_is vs e.to nobody is.to) in
     edge body vs es p (edge_line vs e) e says
     (from, to, decimal e.sep, slice_get-get_or vs e.from nobody is.from, slice_get-get_or vs e.to nobody is.to, line, means_decimal e.sep is.sep.1)
 

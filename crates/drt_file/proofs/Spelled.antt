@@ -189,13 +189,13 @@ tasks_lead version known ls ts (next_task ls2 ts2 own t rest (body, own_is, says
     let first = tasks_lead version known ls2 ts2 rest (few_pop version ts2 t f) in
     let line = leads_one (Done version ts2) (In version ts2 (t.name, held version k None, [], [])) (task_word ∷ t.name ∷ []) (task_one version ts2 t.name known is.name new_name room) in
     let below = body_leads version k ts2 t.name body t.vertices t.edges (written_priority version (Some t.priority)) says (parts_of version t is)
-        (allowed version ts2 t known is.priority new_priority) in
+    (allowed version ts2 t known is.priority new_priority) in
     let both = leads_then (Done version ts2) (In version ts2 (t.name, held version k None, [], []))
-        (In version ts2 (t.name, held version k (written_priority version (Some t.priority)), t.vertices, t.edges))
+    (In version ts2 (t.name, held version k (written_priority version (Some t.priority)), t.vertices, t.edges))
     ((task_word ∷ t.name ∷ []) ∷ []) body line below in
     let whole : Leads (Done version ts2) ((task_word ∷ t.name ∷ []) ∷ body) (Done version (ts2 ++ t ∷ []))
     = leads_to (Done version ts2) (In version ts2 (t.name, held version k (written_priority version (Some t.priority)), t.vertices, t.edges))
-        (Done version (ts2 ++ t ∷ [])) ((task_word ∷ t.name ∷ []) ∷ body)
+    (Done version (ts2 ++ t ∷ [])) ((task_word ∷ t.name ∷ []) ∷ body)
     (λ o h. in_done version ts2 t o (subst (λ p. In version ts2 (t.name, p, t.vertices, t.edges) o) (held_written version ts2 t known order) h)) both in
     leads_then (Done version []) (Done version ts2) (Done version (ts2 ++ t ∷ [])) ls2 own first (subst (λ l. Leads (Done version ts2) l (Done version (ts2 ++ t ∷ []))) (sym own_is) whole)
 
@@ -263,7 +263,7 @@ closing_again n ds ended at has vertices priorities =
     let some : (length ds == 0) ≡ false = not_empty (length ds) has in
     let v : first_line has_no_vertex ds ≡ None = first_none has_no_vertex ds (every_weaker (λ d. 1 ≤ length d.vertices) (λ d. has_no_vertex d ≡ false) has_vertex_again ds vertices) in
     let p : first_line has_no_priority ds ≡ None = first_none has_no_priority ds
-        (every_weaker (λ d. (k : ℕ) × (d.priority ≡ Some k)) (λ d. has_no_priority d ≡ false) has_priority_again ds priorities) in
+    (every_weaker (λ d. (k : ℕ) × (d.priority ≡ Some k)) (λ d. has_no_priority d ≡ false) has_priority_again ds priorities) in
     rw (some, v, at, p) refl
 
 -- The task of what is known of it.
@@ -290,7 +290,7 @@ finish_again n version ts above has each at =
     let P : List ℕ × Option ℕ × List Vertex × List Edge → Type 0 = λ c. (k : ℕ) × (c.1 ≡ Some k) in
     let v : AllByRecursion V (map core ds) = subst (AllByRecursion V) (sym at.drafts_are) (every_map V core_of ts (every_weaker (IsTask version) (λ t. V (core_of t)) (λ t h. h.has_vertex) ts each)) in
     let p : AllByRecursion P (map core ds) = subst (AllByRecursion P) (sym at.drafts_are)
-        (every_map P core_of ts (every_weaker (IsTask version) (λ t. P (core_of t)) (λ t h. (t.priority, refl)) ts each)) in
+    (every_map P core_of ts (every_weaker (IsTask version) (λ t. P (core_of t)) (λ t h. (t.priority, refl)) ts each)) in
     let ok : closing n ds s.ended ≡ Ok ds = closing_again n ds s.ended at.at_end (omega (arith, count, has)) (every_unmap V core ds v) (every_unmap P core ds p) in
     let same : map task_of ds ≡ ts = tasks_from_drafts ds ∙ ap (map task_from) at.drafts_are ∙ tasks_from_tasks ts in
     ap (finish n) at.is

@@ -162,7 +162,7 @@ read_of words version closed (Some d) es n e (above, are, at) =
       in_order = λ one i t g. in_order_at 1 all i t (keys.in_order one) g;
     } in
     subst (λ (x : List Draft). IsTaskSet version (map task_of x)
-        × ((ls : List (List (List ℕ))) × (words ≡ version_line version ∷ (ls ++ end_line ∷ [])) × SaysTasks version ls (map task_of x))) (sym c.same)
+    × ((ls : List (List (List ℕ))) × (words ≡ version_line version ∷ (ls ++ end_line ∷ [])) × SaysTasks version ls (map task_of x))) (sym c.same)
     (limits, (at.done ++ at.own, are ∙ ap (λ l. l ++ end_line ∷ []) at.ws_are, said.0))
 
 finish_reads : (bytes : List ℕ) (n : ℕ) (above : Option State) (set : Contents) → Follows (said bytes) above → finish n above ≡ Ok set → Reads bytes set

@@ -53,9 +53,11 @@ small_number j l = elim (cases_lt j 10) [
   | inr two ↦
       let first : decimal (j / 10) ≡ (48 + j / 10) ∷ [] = decimal_digit (j / 10) (omega arith) in
       let e : decimal j ≡ (48 + j / 10) ∷ (48 + j % 10) ∷ [] = decimal_step j two (omega arith) ∙ ap (λ ds. ds ++ (48 + j % 10) ∷ []) first in
-      subst (λ ds. All IsNameByte ds × (length ds ≤ 2)) (sym e)
-      (All-cons IsNameByte (48 + j / 10) ((48 + j % 10) ∷ []) (digit (j / 10) (omega arith))
-          (All-cons IsNameByte (48 + j % 10) [] (digit (j % 10) (mod_below j 10 (omega arith))) (All-nil IsNameByte)), omega arith)
+      subst (λ ds. All IsNameByte ds × (length ds ≤ 2)) (sym e) (
+        All-cons IsNameByte (48 + j / 10) ((48 + j % 10) ∷ []) (digit (j / 10) (omega arith))
+            (All-cons IsNameByte (48 + j % 10) [] (digit (j % 10) (mod_below j 10 (omega arith))) (All-nil IsNameByte)),
+        omega arith,
+      )
 ]
 
 pub name : (b j : ℕ) → IsNameByte b → j < 12 → IsName (b ∷ decimal j)
@@ -79,11 +81,16 @@ unfolding drawn_period
 period_within x k =
     let P : ℕ → Type 0 = λ p. (100 ≤ p) × (p ≤ 600) in
     All-get_or P periods (draw x k 8) 0 (mod_below _ 8 (omega arith))
-    (All-from_recursion P periods
-    ((omega arith, omega arith),
-        ((omega arith, omega arith),
-        ((omega arith, omega arith),
-        ((omega arith, omega arith), ((omega arith, omega arith), ((omega arith, omega arith), ((omega arith, omega arith), ((omega arith, omega arith), tt)))))))))
+    (All-from_recursion P periods (
+      (omega arith, omega arith),
+      (
+        (omega arith, omega arith),
+        (
+          (omega arith, omega arith),
+          ((omega arith, omega arith), ((omega arith, omega arith), ((omega arith, omega arith), ((omega arith, omega arith), ((omega arith, omega arith), tt))))),
+        ),
+      ),
+    ))
 
 module _ (x p : ℕ) (lo : 100 ≤ p) (hi : p ≤ 600) where
   wcet_below : (k : ℕ) → draw x k (p / 15) < p / 15
@@ -211,7 +218,7 @@ task_constrained x k i =
     each_flat Kept (λ j. drawn_edges p x (k + 25 + 3 * j) j) 0 12 (λ j least l.
     each_edge x p within.0 within.1 Kept (k + 25 + 3 * j) j (λ to sep in_range lo hi.
     some_of (λ v. v.deadline ≤ sep) vertices j (vertex 0) (omega (arith, l, length-map-range_with_len vertex 0 12))
-        (All-weaker (λ v. v.deadline ≤ p) (λ v. v.deadline ≤ sep) (λ v due_by. omega (arith, due_by, lo)) vertices due)))
+    (All-weaker (λ v. v.deadline ≤ p) (λ v. v.deadline ≤ sep) (λ v due_by. omega (arith, due_by, lo)) vertices due)))
 
 -- A task keeps the limits.
 pub task_limits : (x k i : ℕ) → i < 12 → IsTask 1 (drawn_task x k i)

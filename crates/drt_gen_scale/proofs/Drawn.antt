@@ -26,11 +26,16 @@ unfolding drawn_period
 period_divides x k =
     let P : ℕ → Type 0 = λ p. p ∣ 1200 in
     All-get_or P periods (draw x k 8) 0 (mod_below _ 8 (omega arith))
-    (All-from_recursion P periods
-        (dvd_of_mod-eq-zero 100 refl,
-        (dvd_of_mod-eq-zero 120 refl,
-        (dvd_of_mod-eq-zero 150 refl,
-        (dvd_of_mod-eq-zero 200 refl, (dvd_of_mod-eq-zero 240 refl, (dvd_of_mod-eq-zero 300 refl, (dvd_of_mod-eq-zero 400 refl, (dvd_of_mod-eq-zero 600 refl, tt)))))))))
+    (All-from_recursion P periods (
+      dvd_of_mod-eq-zero 100 refl,
+      (
+        dvd_of_mod-eq-zero 120 refl,
+        (
+          dvd_of_mod-eq-zero 150 refl,
+          (dvd_of_mod-eq-zero 200 refl, (dvd_of_mod-eq-zero 240 refl, (dvd_of_mod-eq-zero 300 refl, (dvd_of_mod-eq-zero 400 refl, (dvd_of_mod-eq-zero 600 refl, tt))))),
+        ),
+      ),
+    ))
 
 -- A separation is the period or twice that.
 abbrev IsSep : ℕ → Edge → Type 0

@@ -26,7 +26,7 @@ pub rows_more : (rows : List (List Edge)) (edges : List Edge) (i n : ℕ) (d : E
 rows_more rows edges i n d row l m e r =
     let long : length rows ≡ n = ap length e ∙ length-map-range_with_len (edges_from (take i edges)) 0 n in
     fill_by_all (edges_from (take (i + 1) edges)) (slice_set rows (get_or edges i d).from row) n [] (length-set rows (get_or edges i d).from row ∙ long)
-        (λ k h. at k h (eqb (get_or edges i d).from k) refl long)
+    (λ k h. at k h (eqb (get_or edges i d).from k) refl long)
   where
     was : (k : ℕ) → k < n → get_or rows k [] ≡ edges_from (take i edges) k
     was k h = ap (λ (xs : List (List Edge)). get_or xs k []) e ∙ get_or-map-range_with_len (edges_from (take i edges)) 0 n k k [] h (omega arith)

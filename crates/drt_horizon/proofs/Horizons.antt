@@ -35,8 +35,12 @@ all [] (p ∷ proofs) scale t walks sound given divides due = absurd given
 all (g ∷ graphs) [] scale t walks sound given divides due = absurd given
 all (g ∷ graphs) (p ∷ proofs) scale t [] sound given divides due = absurd due
 all (g ∷ graphs) (p ∷ proofs) scale t (w ∷ walks) sound given divides due =
-    omega (arith, task g p.ratio.num p.ratio.den p.potentials scale t w (head_of IsSoundGraph g graphs sound) given.0.keeps.fits divides.0 due.0, all graphs proofs scale
-        t walks (tail_of IsSoundGraph g graphs sound) given.1 divides.1 due.1)
+    omega (
+      arith,
+      task g p.ratio.num p.ratio.den p.potentials scale t w (head_of IsSoundGraph g graphs sound) given.0.keeps.fits divides.0 due.0,
+      all graphs proofs scale
+          t walks (tail_of IsSoundGraph g graphs sound) given.1 divides.1 due.1,
+    )
 
 at_scale : (graphs : List Digraph) (proofs : List RatioProof) (scale : ℕ) → All IsSoundGraph graphs → AreGiven graphs proofs → EachDivides (fractions_of proofs) scale
     → rate_at scale proofs < scale → (t : ℕ) (walks : List (List ℕ)) → AreDue t graphs walks → t < efforts_together graphs walks → t ≤ horizon_at scale graphs proofs
@@ -47,7 +51,7 @@ at_scale graphs proofs scale sound given divides under t walks due h = go (cases
     go (inl far) =
         let e : rate_at scale proofs + (scale - rate_at scale proofs) ≡ scale = omega arith in
         absurd (beyond (scale - rate_at scale proofs) (rate_at scale proofs) (extra scale graphs (fractions_of proofs) (potentials_of proofs)) t
-            (efforts_together graphs walks) (omega arith) (rw e far) (rw e (all graphs proofs scale t walks sound given divides due)) h)
+        (efforts_together graphs walks) (omega arith) (rw e far) (rw e (all graphs proofs scale t walks sound given divides due)) h)
 
 -- Walks with too much work are due by the horizon.
 pub horizon_holds : (graphs : List Digraph) (proofs : List RatioProof) → AreGraphs graphs → AreGiven graphs proofs → (bound : ℕ)

@@ -52,7 +52,7 @@ are_cycle_turns [] proofs sound given = tt
 are_cycle_turns (g ∷ graphs) [] sound given = absurd given
 are_cycle_turns (g ∷ graphs) (p ∷ proofs) sound given =
     cycle_turns_with g p.ratio.num p.ratio.den p.cycle (cycle_turns_of graphs proofs) (head_of IsSoundGraph g graphs sound) given.0.greatest.has given.0.greatest.distinct
-        (are_cycle_turns graphs proofs (tail_of IsSoundGraph g graphs sound) given.1)
+    (are_cycle_turns graphs proofs (tail_of IsSoundGraph g graphs sound) given.1)
 
 -- In plain numbers: the work of a cycle at the scale is its share of the rate for its span.
 share : (scale a b q w s : ℕ) → b * q ≡ scale → b * w ≡ a * s → scale * w ≡ a * q * s
@@ -77,7 +77,7 @@ all [] (p ∷ proofs) scale t sound given divides = absurd given
 all (g ∷ graphs) [] scale t sound given divides = absurd given
 all (g ∷ graphs) (p ∷ proofs) scale t sound given divides =
     more g p.ratio.num p.ratio.den scale t (rate_at scale proofs) p.cycle (cycle_turns_of graphs proofs) (head_of IsSoundGraph g graphs sound) given.0.greatest.has
-        divides.0 (all graphs proofs scale t (tail_of IsSoundGraph g graphs sound) given.1 divides.1)
+    divides.0 (all graphs proofs scale t (tail_of IsSoundGraph g graphs sound) given.1 divides.1)
 
 -- Where the rate is above the scale, whole turns are too much at the latest time.
 cycle_turns_overload : (graphs : List Digraph) (proofs : List RatioProof) (scale : ℕ) → All IsSoundGraph graphs → AreGiven graphs proofs
@@ -86,10 +86,10 @@ cycle_turns_overload graphs proofs scale sound given divides over =
     let d : scale + (rate_at scale proofs - scale) ≡ rate_at scale proofs = omega arith in
     let some : 0 < rate_at scale proofs - scale = omega arith in
     let l : scale * cycle_turn_works (cycle_turns_of graphs proofs) / (rate_at scale proofs - scale) < scale * cycle_turn_works (cycle_turns_of graphs proofs) /
-        (rate_at scale proofs - scale) + 1 = omega arith in
+    (rate_at scale proofs - scale) + 1 = omega arith in
     let far = (div-lt_iff_lt-mul some).0 l in
     plain scale (rate_at scale proofs - scale) (cycle_turn_works (cycle_turns_of graphs proofs)) (latest scale graphs proofs)
-        (turned (cycle_turns_of graphs proofs) (latest scale graphs proofs)) some (rw d (all graphs proofs scale (latest scale graphs proofs) sound given divides)) far
+    (turned (cycle_turns_of graphs proofs) (latest scale graphs proofs)) some (rw d (all graphs proofs scale (latest scale graphs proofs) sound given divides)) far
 
 over_at : (graphs : List Digraph) (proofs : List RatioProof) → IsPlannedAboveOne graphs proofs → (scale : ℕ) → IsScale (fractions_of proofs) scale → scale < rate_at scale proofs
 over_at graphs proofs above scale is = rw (scale_same (fractions_of proofs) above.0 scale above.1 is) at above.2.1
@@ -99,7 +99,7 @@ pub overload_has_a_time : (graphs : List Digraph) (proofs : List RatioProof) →
     → IsScale (fractions_of proofs) scale → (t : ℕ) × IsStepTime (cycle_turns_of graphs proofs) t × (t ≤ latest scale graphs proofs) × (t < turned (cycle_turns_of graphs proofs) t)
 overload_has_a_time graphs proofs are given above scale is =
     steps_decide (cycle_turns_of graphs proofs) (are_cycle_turns graphs proofs are.sound given) (latest scale graphs proofs)
-        (cycle_turns_overload graphs proofs scale are.sound given is.multiple (over_at graphs proofs above scale is))
+    (cycle_turns_overload graphs proofs scale are.sound given is.multiple (over_at graphs proofs above scale is))
 
 -- A search with enough steps finds a time.
 pub search_ends : (graphs : List Digraph) (proofs : List RatioProof) → AreGraphs graphs → AreGiven graphs proofs → IsPlannedAboveOne graphs proofs → (scale : ℕ)

@@ -127,7 +127,7 @@ module _ (g : Digraph) (sound : IsSoundGraph g) (Q : ℕ → ℕ → Type 0) (ad
       together : AreParts g u cs → ((v : ℕ) (ds : List ℕ) → length ds ≤ n → IsClosedPath g v ds → Q (work g ds) (span g v ds)) → Q (work g cs) (span g u cs)
       together a ih =
           rw (a.works, a.spans)
-              (add (work g a.rest) (span g u a.rest) (work g a.ls) (span g a.x a.ls) (ih u a.rest (omega (arith, a.shorter)) a.whole) (ih a.x a.ls (omega (arith, a.shorter_loop)) a.loop))
+          (add (work g a.rest) (span g u a.rest) (work g a.ls) (span g a.x a.ls) (ih u a.rest (omega (arith, a.shorter)) a.whole) (ih a.x a.ls (omega (arith, a.shorter_loop)) a.loop))
 
       long : vertex_count g < length cs → AreDistinct cs ⊎ IsTwice cs → ((v : ℕ) (ds : List ℕ) → length ds ≤ n → IsClosedPath g v ds → Q (work g ds) (span g v ds)) → Q (work g cs) (span g u cs)
       long m (inl distinct) ih = absurd (omega (arith, few_distinct cs (vertex_count g) distinct (path_below g sound u cs is.path)))

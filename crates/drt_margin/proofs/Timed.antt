@@ -57,7 +57,7 @@ pub timed_same : (tasks : List Task) (k v : ℕ) → timed_tasks tasks k v (wcet
 unfolding timed_tasks
 timed_same tasks k v =
     ap (λ (xs : List Vertex). set tasks k
-        (record { name = (task_at tasks k).name; priority = (task_at tasks k).priority; vertices = xs; edges = (task_at tasks k).edges })) (set-get_or (task_at tasks k).vertices v no_vertex)
+    (record { name = (task_at tasks k).name; priority = (task_at tasks k).priority; vertices = xs; edges = (task_at tasks k).edges })) (set-get_or (task_at tasks k).vertices v no_vertex)
     ∙ set-get_or tasks k no_task
 
 -- Of two execution times of a vertex the second one stands alone.

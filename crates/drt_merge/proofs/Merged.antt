@@ -47,7 +47,7 @@ module _ (g : Digraph) (bound : ℕ) (sound : IsSoundGraph g) (constrained : IsC
   closed_entry v i lv li k lk = ⊎_elim
       (λ (far : bound < (mark_at (row lists v) i).offset + (arc_of g v k).sep + (arc_of g v k).deadline). inl far)
       (λ (is : IsCovered (row lists (arc_of g v k).target) (extended (arc_of g v k) (mark_at (row lists v) i))). inr
-          (any_covers (edge_of g v k).to (extended (arc_of g v k) (mark_at (row lists v) i)) (sound.to v k lv lk) is))
+      (any_covers (edge_of g v k).to (extended (arc_of g v k) (mark_at (row lists v) i)) (sound.to v k lv lk) is))
       (merged.closed v i k lv li lk)
 
   closed : IsClosedFront bound g front
@@ -67,7 +67,7 @@ module _ (g : Digraph) (bound : ℕ) (sound : IsSoundGraph g) (constrained : IsC
       let is = covered g sound constrained bound front openings closed w.first w.others w.is_vertex w.path (omega (arith, d, o, near)) in
       let P : ℕ → ℕ → ℕ → Type 0 = λ v s x. Any (Covers v s x) front in
       subst (λ v. P v e.offset e.work) (sym w.vertex)
-          (subst (λ s. P (last_of w.first w.others) s e.work) (sym w.offset) (subst (λ x. P (last_of w.first w.others) (span g w.first w.others) x) (sym w.works) is))
+      (subst (λ s. P (last_of w.first w.others) s e.work) (sym w.offset) (subst (λ x. P (last_of w.first w.others) (span g w.first w.others) x) (sym w.works) is))
 
   -- Two entries of one vertex, of which the first covers the second, are equal.
   one_entry : (f e : FrontEntry) → Contains front f → Contains front e → f.vertex ≡ e.vertex → f.offset ≤ e.offset → e.work ≤ f.work → f ≡ e

@@ -80,7 +80,7 @@ merged_of g bound arcs lists cursors are is spent = record { rows = is.rows; ope
             let s : length (row lists (arc_at arcs k).source) ≡ length (row lists v) = ap (λ a. length (row lists a.source)) e in absurd (late (omega (arith, le, s, li)))
         past k e r late (inr far) =
             let s : (mark_at (row lists (arc_at arcs k).source) (slice_index cursors k)).offset ≡ (mark_at (row lists v) (slice_index cursors k)).offset = ap
-                (λ a. (mark_at (row lists a.source) (slice_index cursors k)).offset) e in
+            (λ a. (mark_at (row lists a.source) (slice_index cursors k)).offset) e in
             dite (dec_lt (slice_index cursors k) i)
             (λ l. let o = r.offsets (slice_index cursors k) i l li in omega (arith, far, s, o))
             (λ nl. let same : slice_index cursors k ≡ i = omega (arith, late) in

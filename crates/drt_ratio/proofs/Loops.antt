@@ -97,7 +97,7 @@ pub tower_most : (g : Digraph) (a b : ℕ) (levels : List Level) (n v : ℕ) →
 tower_most g a b levels n v sound tower count l = record {
   each = λ u vs path end short.
       let h : height (level_of levels 0) u + b * work g vs ≤ height (level_of levels (0 + length vs)) (last_of u vs) + a * span g u vs = climbs_path g a b n
-          (λ k w. height (level_of levels k) w) (λ k u w m edge. climbs k u w m edge) 0 u vs (omega arith) path in
+      (λ k w. height (level_of levels k) w) (λ k u w m edge. climbs k u w m edge) 0 u vs (omega arith) path in
       let z : 0 + length vs ≡ length vs = omega arith in
       let up : height (level_of levels (length vs)) v ≤ height (level_of levels (length vs + (n - 1 - length vs))) v = keeps_up g a b levels v l tower (length vs) (n - 1 - length vs) (omega arith) in
       let top : length vs + (n - 1 - length vs) ≡ n - 1 = omega arith in
@@ -134,7 +134,7 @@ loop_found g a b n v h most u i m vs path end short sum more is some l same =
     let e = in_parts vs i m in
     let first = last_take u vs i (omega arith) in
     let back : last_of (last_of u (take i vs)) (take m (drop i vs)) ≡ last_of u (take i vs) = sym (last_both u (take i vs) (take m (drop i vs)))
-        ∙ ap (last_of u) (two_takes i m vs) ∙ last_take u vs (i + m) l ∙ sym same ∙ sym first in
+    ∙ ap (last_of u) (two_takes i m vs) ∙ last_take u vs (i + m) l ∙ sym same ∙ sym first in
     let few : length (take i vs ++ drop m (drop i vs)) < n = simp (length-append, length-take, length-drop) (omega arith) in
     let r = loop_gains g a b n v h most u (take i vs) (take m (drop i vs)) (drop m (drop i vs)) (rw e path) (rw e end) (rw e sum) more is few back in
     let size : 0 < length (take m (drop i vs)) = simp (length-take, length-drop) (omega arith) in
@@ -160,7 +160,7 @@ loop_distinct u i m vs l same differ p q before within e =
 pub gain_found : (g : Digraph) (a b : ℕ) (levels : List Level) (n v i j : ℕ) (walk : List ℕ) → IsSoundGraph g → IsTower g a b levels → length levels ≡ n + 1
     → n ≡ vertex_count g → 0 < n → v < vertex_count g →
     (height (level_of levels n) v ≡ height (level_of levels (n - 1)) v → ⊥) → IsTrace g a b n v (height (level_of levels n) v) walk → IsRepeat walk i j
-        → IsGain g a b (take (j + 1 - (i + 1)) (drop (i + 1) walk))
+    → IsGain g a b (take (j + 1 - (i + 1)) (drop (i + 1) walk))
 gain_found g a b levels n v i j [] sound tower count size some l differ trace again = absurd trace
 gain_found g a b levels n v i j (u ∷ vs) sound tower count size some l differ (path, end, short, sum) again =
     let m : j + 1 - (i + 1) ≡ j - i = omega (arith, again.order) in
@@ -172,7 +172,7 @@ gain_found g a b levels n v i j (u ∷ vs) sound tower count size some l differ 
     let rise : height (level_of levels (n - 1)) v ≤ height (level_of levels n) v = rw last at up in
     let same : get_or (u ∷ vs) i 0 ≡ get_or (u ∷ vs) (i + (j - i)) 0 = rw at again.same in
     let r = loop_found g a b n v (height (level_of levels n) v) (height (level_of levels (n - 1)) v) u i (j - i) vs path end short sum (omega arith)
-        (tower_most g a b levels n v sound tower count l) (omega arith) (omega arith) same in
+    (tower_most g a b levels n v sound tower count l) (omega arith) (omega arith) same in
     let d = loop_distinct u i (j - i) vs (omega arith) same (λ p q x y. again.differ p q x (omega arith)) in
     let few : length (take (j - i) (drop i vs)) ≤ vertex_count g = simp (length-take, length-drop) (omega arith) in
     rw (m, add-one) (record { is = r.0; distinct = d; few = few; gains = r.1 })

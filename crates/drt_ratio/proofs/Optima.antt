@@ -107,7 +107,7 @@ reaches g a b levels n v h sound tower (suc k) at vs m l path end short sum =
   where
     go : (height (level_of levels (suc k)) at ≡ height (level_of levels k) at) ⊎ Comes g a b (level_of levels k) (get_or (level_of levels (suc k)).from at 0) at (height (level_of levels (suc k)) at) →
         ((w : ℕ) (ws : List ℕ) → w < vertex_count g → IsPath g w ws → last_of w ws ≡ v → length ws + k ≤ n
-            → b * work g ws + height (level_of levels k) w ≡ h + a * span g w ws → IsReached g a b n v h) → IsReached g a b n v h
+        → b * work g ws + height (level_of levels k) w ≡ h + a * span g w ws → IsReached g a b n v h) → IsReached g a b n v h
     go (inl e) ih = ih at vs l path end (omega arith) (omega arith)
     go (inr comes) ih =
         let u = get_or (level_of levels (suc k)).from at 0 in

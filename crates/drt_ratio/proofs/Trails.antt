@@ -39,7 +39,7 @@ trail_ends g a b levels n v at items none (vs, are, path, end, short, sum) =
 pub trail_down : (g : Digraph) (a b : ℕ) (levels : List Level) (n v k at : ℕ) (items : List ℕ) → IsSoundGraph g → IsTower g a b levels → length levels ≡ n + 1 → 0 < k
     → k ≤ n → at < vertex_count g → (height (level_of levels k) at ≡ height (level_of levels (k - 1)) at → ⊥) →
     IsTrail g a b levels n v k at items → (get_or (level_of levels k).from at 0 < vertex_count g)
-        × IsTrail g a b levels n v (k - 1) (get_or (level_of levels k).from at 0) (items ++ get_or (level_of levels k).from at 0 ∷ [])
+    × IsTrail g a b levels n v (k - 1) (get_or (level_of levels k).from at 0) (items ++ get_or (level_of levels k).from at 0 ∷ [])
 trail_down g a b levels n v zero at items sound tower count some most l differ trail = absurd (omega arith)
 trail_down g a b levels n v (suc k) at items sound tower count some most l differ trail =
     let e : suc k - 1 ≡ k = omega arith in

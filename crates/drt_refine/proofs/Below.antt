@@ -33,10 +33,10 @@ module _ (f : Plain) where
   below_half (leaf ∷ tuple) [] place n l r at h b = elim b [ ]
   below_half (leaf ∷ tuple) (m ∷ nodes) zero n l r at h b =
       elim (under_child leaf n l r h (subst (λ (k : ℕ). IsUnder f leaf k) (same_Some m n at) b.0)) as
-          (λ _. AreBelow f (leaf ∷ tuple) (l ∷ nodes) ⊎ AreBelow f (leaf ∷ tuple) (r ∷ nodes)) [ inl u ↦ inl (u, b.1) | inr u ↦ inr (u, b.1) ]
+      (λ _. AreBelow f (leaf ∷ tuple) (l ∷ nodes) ⊎ AreBelow f (leaf ∷ tuple) (r ∷ nodes)) [ inl u ↦ inl (u, b.1) | inr u ↦ inr (u, b.1) ]
   below_half (leaf ∷ tuple) (m ∷ nodes) (suc place) n l r at h b =
       elim (below_half tuple nodes place n l r at h b.1) as (λ _. AreBelow f (leaf ∷ tuple) (m ∷ set nodes place l) ⊎ AreBelow f (leaf ∷ tuple) (m ∷ set nodes place r))
-          [ inl u ↦ inl (b.0, u) | inr u ↦ inr (b.0, u) ]
+      [ inl u ↦ inl (b.0, u) | inr u ↦ inr (b.0, u) ]
 
   module _ (above : (leaf n t : ℕ) → IsUnder f leaf n → value_at (node_values_in f leaf) t ≤ value_at (node_values_in f n) t) where
     below_sum : (tuple nodes : List ℕ) (t : ℕ) → AreBelow f tuple nodes → sum_at f.pool tuple t ≤ sum_at f.pool nodes t

@@ -91,7 +91,7 @@ module _ (t : FrontierSetting) where
     stepped_effect (Split id place) unfailed can turn =
         let e : FrontierEntry = record { worker = w; step = Split id place } in
         effect_full s e within unfailed (is_full t s) _ refl (taken_unfinished s e within unfailed turn.0 turn.1)
-            (λ lt. halved_at_effect s e within unfailed id place can.0 (slice_get s.combinations id) can.1.at can.2 refl lt)
+        (λ lt. halved_at_effect s e within unfailed id place can.0 (slice_get s.combinations id) can.1.at can.2 refl lt)
     stepped_effect (Fail id) unfailed can turn =
         let e : FrontierEntry = record { worker = w; step = Fail id } in
         effect_full s e within unfailed (is_full t s) _ refl (taken_unfinished s e within unfailed turn.0 turn.1) (λ lt. went lt refl (λ g. fails s e within unfailed id can.0 can.1.at))
@@ -115,8 +115,16 @@ module _ (f : Plain) (d : ℕ) (old : FrontierView) (w : ℕ) (step : FrontierSt
     goes = λ g. absurd (true_not_false (ends_frontier o.reply) end g);
   }
   turn_by can eager driven o is (went lt log stops) = record {
-    drives = record { more = entry ∷ []; setting = refl; log = log; run = (can, ap (λ (x : FrontierOutcome). x.state.log) is ∙ log, tt); state = sym
-        (ap (λ (x : FrontierOutcome). x.state) is); eager = (eager, tt); driven = (driven, tt) };
+    drives = record {
+      more = entry ∷ [];
+      setting = refl;
+      log = log;
+      run = (can, ap (λ (x : FrontierOutcome). x.state.log) is ∙ log, tt);
+      state = sym
+          (ap (λ (x : FrontierOutcome). x.state) is);
+      eager = (eager, tt);
+      driven = (driven, tt);
+    };
     stops = stops;
     goes = λ g. (ap length log ∙ length-append old.log (entry ∷ []), lt, refl);
   }
@@ -126,7 +134,7 @@ module _ (f : Plain) (d : ℕ) (old : FrontierView) (w : ℕ) (step : FrontierSt
       → IsDriven d (state_of old) entry → IsTurn (setting_of f old) (state_of old) step → IsFrontierStep f old new w step r → FrontierTurn f d old new r
   turn_of new r within can eager driven turn h =
       let base : FrontierTurn f d old (moved old (outcome f old w step).state) (outcome f old w step).reply = turn_by can eager driven (outcome f old w step) refl
-          (step_effect (setting_of f old) (state_of old) w within step can turn) in
+      (step_effect (setting_of f old) (state_of old) w within step can turn) in
       subst (λ (v : FrontierView). FrontierTurn f d old v r) (sym h.state) (subst (λ (q : FrontierReply). FrontierTurn f d old (moved old (outcome f old w step).state) q) (sym h.reply_is) base)
 
 module _ (f : Plain) (d : ℕ) where
@@ -140,10 +148,10 @@ module _ (f : Plain) (d : ℕ) where
       let t : FrontierSetting = setting_of f old in
       let run : IsRunBy (after t) (CanEnter t) (λ (s : FrontierState). s.log) (replay_from t (state_of old) a.more) b.more =
       subst (λ (s : FrontierState). IsRunBy (after t) (CanEnter t) (λ (s : FrontierState). s.log) s b.more) a.state
-          (subst (λ (x : FrontierSetting). IsRunBy (after x) (CanEnter x) (λ (s : FrontierState). s.log) (state_of mid) b.more) a.setting b.run) in
+      (subst (λ (x : FrontierSetting). IsRunBy (after x) (CanEnter x) (λ (s : FrontierState). s.log) (state_of mid) b.more) a.setting b.run) in
       let eager : AllAlong (after t) (IsEagerStep t) (replay_from t (state_of old) a.more) b.more =
       subst (λ (s : FrontierState). AllAlong (after t) (IsEagerStep t) s b.more) a.state
-          (subst (λ (x : FrontierSetting). AllAlong (after x) (IsEagerStep x) (state_of mid) b.more) a.setting b.eager) in
+      (subst (λ (x : FrontierSetting). AllAlong (after x) (IsEagerStep x) (state_of mid) b.more) a.setting b.eager) in
       let driven : AllAlong (after t) (IsDriven d) (replay_from t (state_of old) a.more) b.more =
       subst (λ (s : FrontierState). AllAlong (after t) (IsDriven d) s b.more) a.state (subst (λ (x : FrontierSetting). AllAlong (after x) (IsDriven d) (state_of mid) b.more) a.setting b.driven) in
       let state : state_of new ≡ replay_from t (replay_from t (state_of old) a.more) b.more =

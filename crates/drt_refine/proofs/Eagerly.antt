@@ -170,11 +170,19 @@ module _ (t : FrontierSetting) where
           place_is = place_is;
           pair = pair;
           left_has =
-              record { combination = fresh_combination left_nodes; at = subst (λ i. slice_get (front ++ back) i ≡ Some (fresh_combination left_nodes)) l
-                  (after_end front back 0 (fresh_combination left_nodes) refl); are = refl };
+              record {
+                combination = fresh_combination left_nodes;
+                at = subst (λ i. slice_get (front ++ back) i ≡ Some (fresh_combination left_nodes)) l
+                    (after_end front back 0 (fresh_combination left_nodes) refl);
+                are = refl;
+              };
           right_has =
-              record { combination = fresh_combination right_nodes; at = subst (λ i. slice_get (front ++ back) i ≡ Some (fresh_combination right_nodes)) r
-                  (after_end front back 1 (fresh_combination right_nodes) refl); are = refl };
+              record {
+                combination = fresh_combination right_nodes;
+                at = subst (λ i. slice_get (front ++ back) i ≡ Some (fresh_combination right_nodes)) r
+                    (after_end front back 1 (fresh_combination right_nodes) refl);
+                are = refl;
+              };
           later = slice_get_within cs k c at;
           next = refl;
         }
@@ -329,4 +337,4 @@ pub finished_done : (t : FrontierSetting) (s : FrontierState) → is_finished t 
 finished_done t s h id c at =
     let none : AreNone s = finished_none t s h in
     done_by c.state (none_found is_combination_pending s.combinations none.pending id c at) (none_found is_combination_taken s.combinations none.taken id c at)
-        (none_found is_failed s.combinations none.failed id c at)
+    (none_found is_failed s.combinations none.failed id c at)

@@ -107,12 +107,12 @@ combinations_push width nodes more (s ∷ states) x e l =
     let d : length (drop width nodes) + width ≡ length nodes = length_drop width nodes (omega arith) in
     ap (λ (xs : List ℕ). record { nodes = xs; state = s } ∷ combinations_of width (drop width (nodes ++ more)) (states ++ x ∷ [])) (take_front width nodes more (omega arith))
     ∙ ap (λ cs. record { nodes = take width nodes; state = s } ∷ cs)
-        (ap (λ xs. combinations_of width xs (states ++ x ∷ [])) (drop_front width nodes more (omega arith)) ∙ combinations_push width (drop width nodes) more states x (omega arith) l)
+    (ap (λ xs. combinations_of width xs (states ++ x ∷ [])) (drop_front width nodes more (omega arith)) ∙ combinations_push width (drop width nodes) more states x (omega arith) l)
 
 -- a view whose combinations and log change
 pub moved_by : (r : List ℕ) (w d b : ℕ) (cs : List Combination) (l : List FrontierEntry) (v : FrontierView) → record { roots = r; wcet = w; deadline = d; budget = b; combinations = cs; log = l } ≡ v →
     (g : List Combination → List Combination) (e : FrontierEntry) (cs' : List Combination) (l' : List FrontierEntry) → cs' ≡ g cs → l' ≡ l ++ e ∷ []
-        → record { roots = r; wcet = w; deadline = d; budget = b; combinations = cs'; log = l' } ≡ moved v (record { combinations = g v.combinations; log = v.log ++ e ∷ [] })
+    → record { roots = r; wcet = w; deadline = d; budget = b; combinations = cs'; log = l' } ≡ moved v (record { combinations = g v.combinations; log = v.log ++ e ∷ [] })
 moved_by r w d b cs l v is g e cs' l' p q =
     ap (λ (xs : List Combination). record { roots = r; wcet = w; deadline = d; budget = b; combinations = xs; log = l' }) p
     ∙ (ap (λ (xs : List FrontierEntry). record { roots = r; wcet = w; deadline = d; budget = b; combinations = g cs; log = xs }) q

@@ -67,9 +67,9 @@ module _ (w : ℕ) (nodes : List ℕ) (states : List CombinationState) (id place
       ∙ (two (changed id (with_state x) (combinations_of w nodes states)) (fresh_combination a) (fresh_combination b)
       ∙ (ap (λ z. changed id (with_state z) (combinations_of w nodes states) ++ fresh_combination a ∷ fresh_combination b ∷ []) y
       ∙ (ap (λ z. changed id (with_state (SplitAt place (length (combinations_of w nodes states)) (length (combinations_of w nodes states) + 1)))
-          (combinations_of w nodes states) ++ fresh_combination z ∷ fresh_combination b ∷ []) p
+      (combinations_of w nodes states) ++ fresh_combination z ∷ fresh_combination b ∷ []) p
       ∙ ap (λ z. changed id (with_state (SplitAt place (length (combinations_of w nodes states)) (length (combinations_of w nodes states) + 1)))
-          (combinations_of w nodes states) ++ fresh_combination (set c.nodes place left) ∷ fresh_combination z ∷ []) q))))
+      (combinations_of w nodes states) ++ fresh_combination (set c.nodes place left) ∷ fresh_combination z ∷ []) q))))
     where
       two : {A : Type 0} (xs : List A) (u v : A) → (xs ++ u ∷ []) ++ v ∷ [] ≡ xs ++ u ∷ v ∷ []
       two [] u v = refl

@@ -27,7 +27,7 @@ pub halving : (r : List ℕ) (wcet deadline budget : ℕ) (nodes : List ℕ) (st
     → record { roots = r; wcet = wcet; deadline = deadline; budget = budget; combinations = combinations_of (length r) nodes states; log = log } ≡ v →
     length nodes ≡ length states * length r → length states + length (places is_taken_combination states) ≤ 1 + length log →
     (id width : ℕ) (x : Combination) → slice_get v.combinations id ≡ Some x → is_combination_taken x ≡ true → length x.nodes ≡ length v.roots → length v.log < v.budget
-        → width ≡ length r → Halving (length r) width budget nodes states id x
+    → width ≡ length r → Halving (length r) width budget nodes states id x
 halving r wcet deadline budget nodes states log v is flat left id width x at_v held wide_v lt_v same =
     let w : ℕ = length r in
     let at : slice_get (combinations_of w nodes states) id ≡ Some x = ap (λ (u : FrontierView). slice_get u.combinations id) is ∙ at_v in
@@ -86,4 +86,4 @@ module _ (w width budget : ℕ) (nodes : List ℕ) (states : List CombinationSta
     halves_now a b all left right p q e =
         ap (λ l. combinations_of w l now) e ∙ (ap (λ l. combinations_of w ((nodes ++ a) ++ b) l) twice
         ∙ halves_made w nodes states id place left right x h.flat h.room.part h.room.nodes_are h.wide a b (Split place (length states) (length states + 1)) p q
-            (ap (λ n. Split place n (n + 1)) (sym (length_combinations w nodes states))))
+        (ap (λ n. Split place n (n + 1)) (sym (length_combinations w nodes states))))

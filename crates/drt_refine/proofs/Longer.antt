@@ -94,16 +94,16 @@ module _ (t : FrontierSetting) (nodes : List ℕ) where
   upto zero le = inr (λ time le p. let one : 1 ≤ time = p.from in absurd (omega arith))
   upto (suc n) le = elim (upto n (omega arith)) as
       (λ _. ((time : ℕ) × Passes t.wcet t.deadline t.forest.pool nodes time) ⊎ ((time : ℕ) → time ≤ suc n → Passes t.wcet t.deadline t.forest.pool nodes time → ⊥)) [
-    | inl p ↦ inl p
-    | inr none ↦ elim (sides (t.wcet + sum_at t.forest.pool nodes (suc n)) (suc n)) as
-        (λ _. ((time : ℕ) × Passes t.wcet t.deadline t.forest.pool nodes time) ⊎ ((time : ℕ) → time ≤ suc n → Passes t.wcet t.deadline t.forest.pool nodes time → ⊥)) [
-      | inl le2 ↦ inl (suc n, record { from = omega arith; to = le; passes = le2 })
-      | inr gt ↦ inr (λ time lt p. elim (last time n lt) as (λ _. ⊥) [
-        | inl less ↦ none time less p
-        | inr same ↦ (let q : t.wcet + sum_at t.forest.pool nodes (suc n) ≤ suc n = subst (λ (m : ℕ). t.wcet + sum_at t.forest.pool nodes m ≤ m) same p.passes in absurd (omega arith))
-      ])
-    ]
-  ]
+        | inl p ↦ inl p
+        | inr none ↦ elim (sides (t.wcet + sum_at t.forest.pool nodes (suc n)) (suc n)) as
+            (λ _. ((time : ℕ) × Passes t.wcet t.deadline t.forest.pool nodes time) ⊎ ((time : ℕ) → time ≤ suc n → Passes t.wcet t.deadline t.forest.pool nodes time → ⊥)) [
+              | inl le2 ↦ inl (suc n, record { from = omega arith; to = le; passes = le2 })
+              | inr gt ↦ inr (λ time lt p. elim (last time n lt) as (λ _. ⊥) [
+                | inl less ↦ none time less p
+                | inr same ↦ (let q : t.wcet + sum_at t.forest.pool nodes (suc n) ≤ suc n = subst (λ (m : ℕ). t.wcet + sum_at t.forest.pool nodes m ≤ m) same p.passes in absurd (omega arith))
+              ])
+            ]
+      ]
     where
       sides : (a b : ℕ) → (a ≤ b) ⊎ (b < a)
       sides a b = grind arith
@@ -152,19 +152,26 @@ module _ (t : FrontierSetting) (s : FrontierState) (lt : length s.log < t.budget
 
   settle_one : (id w : ℕ) (c : Combination) → slice_get s.combinations id ≡ Some c → c.state ≡ TakenBy w → IsLogged t s
   settle_one id w c at held = elim (passes_or t c.nodes) as (λ _. IsLogged t s) [
-    | inl p ↦ record { entry = record { worker = w; step = Pass id p.0 }; can = (c, record { at = at; held = held }, p.1); logs = logs_by w (Pass id p.0)
-        (logged_outcome s (record { worker = w; step = Pass id p.0 }) (changed id (with_state (PassedAt p.0)) s.combinations) Passed) refl refl }
+    | inl p ↦ record {
+      entry = record { worker = w; step = Pass id p.0 };
+      can = (c, record { at = at; held = held }, p.1);
+      logs = logs_by w (Pass id p.0)
+          (logged_outcome s (record { worker = w; step = Pass id p.0 }) (changed id (with_state (PassedAt p.0)) s.combinations) Passed) refl refl;
+    }
     | inr none ↦ elim (concrete_or t c.nodes) as (λ _. IsLogged t s) [
-      | inl leaves ↦ record
-          { entry = record { worker = w; step = Fail id }; can = (c, record { at = at; held = held }, (leaves, none)); logs = logs_by w (Fail id)
-          (logged_outcome s (record { worker = w; step = Fail id }) (changed id (with_state HasFailed) s.combinations) (Failed id)) refl refl }
+      | inl leaves ↦ record {
+        entry = record { worker = w; step = Fail id };
+        can = (c, record { at = at; held = held }, (leaves, none));
+        logs = logs_by w (Fail id)
+            (logged_outcome s (record { worker = w; step = Fail id }) (changed id (with_state HasFailed) s.combinations) (Failed id)) refl refl;
+      }
       | inr pair ↦ record {
         entry = record { worker = w; step = Split id pair.0 };
         can = (c, record { at = at; held = held }, pair.1);
         logs = logs_by w (Split id pair.0) (halved_at t s (record { worker = w; step = Split id pair.0 }) id pair.0 (slice_get s.combinations id)) refl
             (ap (λ (o : Option Combination). (halved_at t s (record { worker = w; step = Split id pair.0 }) id pair.0 o).state.log) at
             ∙ ap (λ (o : Option (ℕ × ℕ)). (halved t s (record { worker = w; step = Split id pair.0 }) id pair.0 c.nodes o).state.log)
-                (let q : ℕ × ℕ = (pair.1.left, pair.1.right) in let e : children_at t (slice_get c.nodes pair.0) ≡ Some q = ap (λ o. children_at t o) pair.1.at ∙ pair.1.children in e));
+            (let q : ℕ × ℕ = (pair.1.left, pair.1.right) in let e : children_at t (slice_get c.nodes pair.0) ≡ Some q = ap (λ o. children_at t o) pair.1.at ∙ pair.1.children in e));
       }
     ]
   ]

@@ -25,12 +25,12 @@ module _ (p : Plain) (old : FrontierView) (w : ℕ) where
   pub settled : (new : FrontierView) (step : FrontierStep) (reply : FrontierReply) (k : ℕ) (x : CombinationState) → first is_failed old.combinations ≡ None
       → false ≡ nat_le old.budget (length old.log) →
       stepped (setting_of p old) (state_of old) w step ≡ cond (nat_le old.budget (length old.log)) (unchanged (state_of old) Spent)
-          (logged_outcome (state_of old) (record { worker = w; step = step }) (changed k (with_state x) old.combinations) reply) →
+      (logged_outcome (state_of old) (record { worker = w; step = step }) (changed k (with_state x) old.combinations) reply) →
       new ≡ moved old (record { combinations = changed k (with_state x) old.combinations; log = old.log ++ record { worker = w; step = step } ∷ [] }) → IsFrontierStep p old new w step reply
   settled new step reply k x f h e n = made new step reply (logged_outcome (state_of old) (record { worker = w; step = step }) (changed k (with_state x) old.combinations) reply)
       (ap (λ y. step_by (setting_of p old) (state_of old) w step y) f
-          ∙ (e ∙ ap (λ y. cond y (unchanged (state_of old) Spent)
-          (logged_outcome (state_of old) (record { worker = w; step = step }) (changed k (with_state x) old.combinations) reply)) (sym h))) n refl
+      ∙ (e ∙ ap (λ y. cond y (unchanged (state_of old) Spent)
+      (logged_outcome (state_of old) (record { worker = w; step = step }) (changed k (with_state x) old.combinations) reply)) (sym h))) n refl
 
 -- a step changes nothing, or adds itself to the log
 pub data Logs (s : FrontierState) (e : FrontierEntry) (x : FrontierState) : Type 0 where
@@ -79,7 +79,7 @@ module _ (p : Plain) (old : FrontierView) (w : ℕ) (step : FrontierStep) (front
       let can_then : CanStep t (replay t old.log) w step = subst (λ (s : FrontierState). CanStep t s w step) front.state can in
       let logs : (step_of t (state_of old) w step).state.log ≡ (state_of old).log ++ entry ∷ [] = ap (λ (s : FrontierState). s.log) (sym h) ∙ e in
       let logs_then : (step_of t (replay t old.log) w step).state.log ≡ (replay t old.log).log ++ entry ∷ [] = subst
-          (λ (s : FrontierState). (step_of t s w step).state.log ≡ s.log ++ entry ∷ []) front.state logs in
+      (λ (s : FrontierState). (step_of t s w step).state.log ≡ s.log ++ entry ∷ []) front.state logs in
       let run : IsRun t (old.log ++ entry ∷ []) = run_join (after t) (CanEnter t) (λ (s : FrontierState). s.log) old.log (entry ∷ []) (opening_state t) front.run (can_then, logs_then, tt) in
       let more : replay t (old.log ++ entry ∷ []) ≡ (step_of t (replay t old.log) w step).state = replay_join (after t) old.log (entry ∷ []) (opening_state t) in
       record {

@@ -46,9 +46,11 @@ splitting p v w id place front can =
 
 pub split_step : (p : Plain) (old new : FrontierView) (w id place n left right : ℕ) (c : Combination) (reply : FrontierReply) → first is_failed old.combinations ≡ None
     → false ≡ nat_le old.budget (length old.log) → slice_get old.combinations id ≡ Some c → slice_get c.nodes place ≡ Some n → children p n ≡ Some (left, right) →
-    new ≡ moved old (record
-        { combinations = halves old.combinations id place (set c.nodes place left) (set c.nodes place right); log = old.log ++ record
-        { worker = w; step = Split id place } ∷ [] }) → reply ≡ Halved (length old.combinations) (length old.combinations + 1) → IsFrontierStep p old new w (Split id place) reply
+    new ≡ moved old (record {
+      combinations = halves old.combinations id place (set c.nodes place left) (set c.nodes place right);
+      log = old.log ++ record
+          { worker = w; step = Split id place } ∷ [];
+    }) → reply ≡ Halved (length old.combinations) (length old.combinations + 1) → IsFrontierStep p old new w (Split id place) reply
 split_step p old new w id place n left right c reply f h at node_at pair is r =
     let t = setting_of p old in
     let s = state_of old in

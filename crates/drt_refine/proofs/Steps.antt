@@ -97,7 +97,7 @@ module _ (t : FrontierSetting) (forest : IsForest t.forest) where
     in_place : AreInPlace t (set c.nodes place l) × AreInPlace t (set c.nodes place r)
     in_place =
         let two : AreChosen t.deadline t.forest.pool (set c.nodes place l) × AreChosen t.deadline t.forest.pool (set c.nodes place r) = chosen_halves t.forest forest
-            t.deadline c.nodes place n l r node_at pair_is nodes_of.0 in
+        t.deadline c.nodes place n l r node_at pair_is nodes_of.0 in
         ((two.0, length_set c.nodes place l ∙ nodes_of.1), (two.1, length_set c.nodes place r ∙ nodes_of.1))
 
     told_new : (i : ℕ) (x : Combination) → slice_get (fresh_combination (set c.nodes place l) ∷ fresh_combination (set c.nodes place r) ∷ []) i ≡ Some x

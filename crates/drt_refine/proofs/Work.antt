@@ -44,7 +44,7 @@ module _ (t : FrontierSetting) (forest : IsForest t.forest) (some : (n : ℕ) �
         → left_of t (tuples t.forest c.nodes) x + 1 ≤ left t c → IsBounded t (record { combinations = changed k (with_state x) s.combinations; log = s.log ++ e ∷ [] })
     one_more k c x e at p =
         let a : total (left t) (changed k (with_state x) s.combinations) + left t c ≡ total (left t) s.combinations + left_of t (tuples t.forest c.nodes)
-            x = total_changed (left t) k (with_state x) s.combinations c at in
+        x = total_changed (left t) k (with_state x) s.combinations c at in
         more s e (changed k (with_state x) s.combinations) bounded (omega arith)
 
     left_held : (c : Combination) → c.state ≡ TakenBy w → left t c ≡ 4 * tuples t.forest c.nodes - 3
@@ -58,8 +58,8 @@ module _ (t : FrontierSetting) (forest : IsForest t.forest) (some : (n : ℕ) �
         let a : left t f.item ≡ 4 * tuples t.forest f.item.nodes - 2 = left_pending (tuples t.forest f.item.nodes) f.item.state f.passes in
         let p : 1 ≤ tuples t.forest f.item.nodes = tuples_some t.forest forest some f.item.nodes in
         either_bounded (is_full t s) _ _ bounded
-            (one_more k f.item (TakenBy w) (record { worker = w; step = Take }) f.at
-            (let g : left_of t (tuples t.forest f.item.nodes) (TakenBy w) ≡ 4 * tuples t.forest f.item.nodes - 3 = refl in omega arith))
+        (one_more k f.item (TakenBy w) (record { worker = w; step = Take }) f.at
+        (let g : left_of t (tuples t.forest f.item.nodes) (TakenBy w) ≡ 4 * tuples t.forest f.item.nodes - 3 = refl in omega arith))
 
     halved_bounded : (e : FrontierEntry) (id place : ℕ) (c : Combination) (o : Option (ℕ × ℕ)) → slice_get s.combinations id ≡ Some c → c.state ≡ TakenBy w
         → (p : IsPairAt t c.nodes place) → children_at t (slice_get c.nodes place) ≡ o → IsBounded t (halved t s e id place c.nodes o).state
@@ -85,7 +85,7 @@ module _ (t : FrontierSetting) (forest : IsForest t.forest) (some : (n : ℕ) �
     halved_at_bounded e id place c (Some d) at held p h =
         let same : c ≡ d = same_Some c d (sym at ∙ h) in
         halved_bounded e id place d (children_at t (slice_get d.nodes place)) h (subst (λ (x : Combination). x.state ≡ TakenBy w) same held)
-            (subst (λ (x : Combination). IsPairAt t x.nodes place) same p) refl
+        (subst (λ (x : Combination). IsPairAt t x.nodes place) same p) refl
 
     settled_bounded : (k : ℕ) (c : Combination) (x : CombinationState) (e : FrontierEntry) → slice_get s.combinations k ≡ Some c → c.state ≡ TakenBy w
         → left_of t (tuples t.forest c.nodes) x ≡ 0 → IsBounded t (record { combinations = changed k (with_state x) s.combinations; log = s.log ++ e ∷ [] })

@@ -117,7 +117,7 @@ count_at jobs task j k e h l =
     let p : Job → Bool = λ job. job.task == task in
     let more = count_by_more_yes p jobs j (record { task = 0; priority = 0; time = 0; deadline = 0; need = 0 }) (omega arith) (eq-eqb (job_at jobs j).task task e) in
     let le : count_by p (take (j + 1) jobs) ≤ count_by p (take k jobs) = subst (λ xs. count_by p xs ≤ count_by p (take k jobs)) (take-take (j + 1) k jobs (omega arith))
-        (sum_by-take-le (λ job. cond (p job) 1 0) (take k jobs) (j + 1)) in
+    (sum_by-take-le (λ job. cond (p job) 1 0) (take k jobs) (j + 1)) in
     omega (arith, more, le)
 
 -- a task and an index name one job

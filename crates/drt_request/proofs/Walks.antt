@@ -29,10 +29,10 @@ unfolding requested_from span
 requested_more g offset u [] v t = ap (λ z. cond (nat_lt offset t) (wcet g u) 0 + z) (same_test (offset + gap g u v) (offset + (0 + gap g u v)) t (wcet g v) (omega arith))
 requested_more g offset u (w ∷ vs) v t =
     let e : requested_from g (offset + gap g u w) w (vs ++ v ∷ []) t ≡ requested_from g (offset + gap g u w) w vs t + cond
-        (nat_lt ((offset + gap g u w) + (span g w vs + gap g (last_of w vs) v)) t) (wcet g v) 0 = requested_more g (offset + gap g u w) w vs v t in
+    (nat_lt ((offset + gap g u w) + (span g w vs + gap g (last_of w vs) v)) t) (wcet g v) 0 = requested_more g (offset + gap g u w) w vs v t in
     let s : cond (nat_lt ((offset + gap g u w) + (span g w vs + gap g (last_of w vs) v)) t) (wcet g v) 0 ≡ cond
-        (nat_lt (offset + ((gap g u w + span g w vs) + gap g (last_of w vs) v)) t) (wcet g v) 0 = same_test
-        ((offset + gap g u w) + (span g w vs + gap g (last_of w vs) v)) (offset + ((gap g u w + span g w vs) + gap g (last_of w vs) v)) t (wcet g v) (omega arith) in
+    (nat_lt (offset + ((gap g u w + span g w vs) + gap g (last_of w vs) v)) t) (wcet g v) 0 = same_test
+    ((offset + gap g u w) + (span g w vs + gap g (last_of w vs) v)) (offset + ((gap g u w + span g w vs) + gap g (last_of w vs) v)) t (wcet g v) (omega arith) in
     omega arith
 
 at_raised_all : (w : ℕ) (xs : List ℕ) (i : ℕ) → i < length xs → slice_index (raise 0 w xs) i ≡ slice_index xs i + w

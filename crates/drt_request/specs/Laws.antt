@@ -54,7 +54,7 @@ covers_trans (x ∷ xs) (y ∷ ys) (z ∷ zs) h k =
     let p : nat_le y x ≡ true = and_left (nat_le y x) (covers xs ys) h in
     let q : nat_le z y ≡ true = and_left (nat_le z y) (covers ys zs) k in
     both (nat_le z x) (covers xs zs) (let t : nat_le z x ≡ true = grind (arith, nat_tests) in t)
-        (covers_trans xs ys zs (and_right (nat_le y x) (covers xs ys) h) (and_right (nat_le z y) (covers ys zs) k))
+    (covers_trans xs ys zs (and_right (nat_le y x) (covers xs ys) h) (and_right (nat_le z y) (covers ys zs) k))
 
 covers_both : (xs ys : List ℕ) → covers xs ys ≡ true → covers ys xs ≡ true → xs ≡ ys
 covers_both [] [] h k = refl
@@ -79,11 +79,11 @@ raise_covers k j w (x ∷ xs) [] le h = absurd (cc)
 raise_covers zero zero w (x ∷ xs) (y ∷ ys) le h =
     let p : nat_le y x ≡ true = and_left (nat_le y x) (covers xs ys) h in
     both (nat_le (y + w) (x + w)) (covers (raise zero w xs) (raise zero w ys)) (let t : nat_le (y + w) (x + w) ≡ true = grind (arith, nat_tests) in t)
-        (raise_covers zero zero w xs ys le (and_right (nat_le y x) (covers xs ys) h))
+    (raise_covers zero zero w xs ys le (and_right (nat_le y x) (covers xs ys) h))
 raise_covers zero (suc j) w (x ∷ xs) (y ∷ ys) le h =
     let p : nat_le y x ≡ true = and_left (nat_le y x) (covers xs ys) h in
     both (nat_le y (x + w)) (covers (raise zero w xs) (raise j w ys)) (let t : nat_le y (x + w) ≡ true = grind (arith, nat_tests) in t)
-        (raise_covers zero j w xs ys (omega arith) (and_right (nat_le y x) (covers xs ys) h))
+    (raise_covers zero j w xs ys (omega arith) (and_right (nat_le y x) (covers xs ys) h))
 raise_covers (suc k) zero w (x ∷ xs) (y ∷ ys) le h = absurd (omega arith)
 raise_covers (suc k) (suc j) w (x ∷ xs) (y ∷ ys) le h =
     both (nat_le y x) (covers (raise k w xs) (raise j w ys)) (and_left (nat_le y x) (covers xs ys) h) (raise_covers k j w xs ys (omega arith) (and_right (nat_le y x) (covers xs ys) h))
@@ -114,8 +114,12 @@ monotone x y sep target wcet h =
     let p : Parts x y = parts x y h in
     let o : x.offset ≤ y.offset = p.offset in
     whole (request_algebra.extend x sep target wcet) (request_algebra.extend y sep target wcet)
-    (record { vertex = refl; offset = let s : x.offset + sep ≤ y.offset + sep = omega arith in
-        s; values = raise_covers (x.offset + sep) (y.offset + sep) wcet x.values y.values (omega arith) p.values })
+    (record {
+      vertex = refl;
+      offset = let s : x.offset + sep ≤ y.offset + sep = omega arith in
+          s;
+      values = raise_covers (x.offset + sep) (y.offset + sep) wcet x.values y.values (omega arith) p.values;
+    })
 
 pub request_laws : Laws request_algebra
 request_laws = record {

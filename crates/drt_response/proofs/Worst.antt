@@ -33,7 +33,7 @@ use Rattle.drt_response.proofs.Placed.{placed_are_walks, placed_asked}
 module _ (version : ℕ) (tasks : List Task) (limits : IsTaskSet version tasks) (tails : List TailClaim) (have : HaveTails tasks tails)
     (k v : ℕ) (task : k < length tasks) (vertex : v < vertex_count (graph_at tasks k)) (ticks : ℕ) (walks : List (List ℕ))
     (worst : AreWorst (graphs_of_places (higher_places tasks (task_at tasks k))) (higher_tails tasks tails (task_at tasks k)) (wcet (graph_at tasks k) v)
-        (deadline (graph_at tasks k) v) ticks walks) where
+    (deadline (graph_at tasks k) v) ticks walks) where
   -- Whatever the walks, some time up to the number has room.
   most : StatesPass → (others : ℕ → List ℕ) → AreWalks tasks others → FitsWithin tasks others k v ticks
   most pass others are =

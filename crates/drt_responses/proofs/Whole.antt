@@ -109,7 +109,7 @@ followed_at bytes s b rest line r at =
     let w = some_first b rest in
     let first : first_lines line bytes ≡ response_text s ++ (b ∷ w.0)
     = ap (λ n. first_lines n bytes) number ∙ ap (first_lines (length ls + 1)) stands ∙ first_more ls (b ∷ rest) 1 r.lines.no_feeds ∙ ap (λ t. fed ls ++ t) w.1
-        ∙ ap (λ t. t ++ (b ∷ w.0)) (sym r.lines.are) in
+    ∙ ap (λ t. t ++ (b ∷ w.0)) (sym r.lines.are) in
     record {
       none = λ t is. longer t b rest is.in_range (sym r.stands ∙ is.is);
       here = inr (λ p. longer p.0 b (w.0 ++ p.1) p.2.in_range (sym (append_assoc (response_text s) (b ∷ w.0) p.1) ∙ ap (λ t. t ++ p.1) (sym first) ∙ p.2.is));

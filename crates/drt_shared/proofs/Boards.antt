@@ -34,7 +34,7 @@ module _ {L : Type 0} (v : View L) where
   pub held_node : (k : ℕ) (n : NodeOf L) → slice_get (state_of v).nodes k ≡ Some n → (h : Held L) × (slice_get v.nodes k ≡ Some h) × (h.node ≡ n)
   held_node k n at =
       let lt : k < length v.nodes = (let g : k < length (state_of v).nodes = slice_get_within (state_of v).nodes k n at in
-          let e : length (state_of v).nodes ≡ length v.nodes = length-map v.nodes (λ h. h.node) in omega arith) in
+      let e : length (state_of v).nodes ≡ length v.nodes = length-map v.nodes (λ h. h.node) in omega arith) in
       let x : (h : Held L) × (slice_get v.nodes k ≡ Some h) = get_within v.nodes k lt in
       (x.0, x.1, same_Some x.0.node n (sym (node_at k x.0 x.1) ∙ at))
 

@@ -239,19 +239,40 @@ module _ {L : Type 0} (a : Algebra L) where
   -- a call that made a step
   pub offer_call : (old new : View L) (o : Option (Holding L)) (id k : ℕ) (l : L) (r : TableReply) → IsLogged old new (OfferStep id k) r → HasMore a (setting_of old) o
       → IsCall a old new o (Offer k l) (Step r) None
-  offer_call old new o id k l r is more = record
-      { setting = is.setting; log = is.log; few = is.few; kind = is.kind; differs = tt; comes = offer_nothing L r is.kind; held = nothing_held (setting_of old);
-      next = offer_counts (setting_of old) o r is.kind more }
+  offer_call old new o id k l r is more = record {
+    setting = is.setting;
+    log = is.log;
+    few = is.few;
+    kind = is.kind;
+    differs = tt;
+    comes = offer_nothing L r is.kind;
+    held = nothing_held (setting_of old);
+    next = offer_counts (setting_of old) o r is.kind more;
+  }
 
   pub close_call : (old new : View L) (o : Option (Holding L)) (id : ℕ) (r : TableReply) → IsLogged old new (CloseStep id) r → IsCall a old new o Close (Step r) None
-  close_call old new o id r is = record
-      { setting = is.setting; log = is.log; few = is.few; kind = is.kind; differs = tt; comes = close_nothing L r is.kind; held = nothing_held (setting_of old);
-      next = close_counts (setting_of old) o r is.kind }
+  close_call old new o id r is = record {
+    setting = is.setting;
+    log = is.log;
+    few = is.few;
+    kind = is.kind;
+    differs = tt;
+    comes = close_nothing L r is.kind;
+    held = nothing_held (setting_of old);
+    next = close_counts (setting_of old) o r is.kind;
+  }
 
   pub take_call : (old new : View L) (o : Option (Holding L)) (r : TableReply) → IsLogged old new TakeStep r → taken_node r ≡ None → IsCall a old new o Take (Step r) None
-  take_call old new o r is none = record
-      { setting = is.setting; log = is.log; few = is.few; kind = is.kind; differs = tt; comes = take_nothing L r none; held = nothing_held (setting_of old);
-      next = take_counts (setting_of old) o r is.kind }
+  take_call old new o r is none = record {
+    setting = is.setting;
+    log = is.log;
+    few = is.few;
+    kind = is.kind;
+    differs = tt;
+    comes = take_nothing L r none;
+    held = nothing_held (setting_of old);
+    next = take_counts (setting_of old) o r is.kind;
+  }
 
   pub taken_call : (old mid new : View L) (o : Option (Holding L)) (r : TableReply) (h : Holding L) → IsLogged old mid TakeStep r → taken_node r ≡ Some h.node → h.offered ≡ 0
       → setting_of new ≡ setting_of mid → new.log ≡ mid.log → IsLabel a (setting_of mid) h.label → IsCall a old new o Take (Step r) (Some h)

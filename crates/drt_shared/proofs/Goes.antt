@@ -62,8 +62,12 @@ module _ {L : Type 0} where
       → ((n : NodeOf L) → is_node_pending (f n) ≡ true → is_node_pending n ≡ true) → (k : ℕ) → WaitsAt (changed id f nodes) k → Waited nodes r k
   changed_waits id f nodes r back k w =
       let b : Before id f nodes k w.0 = before_change id f nodes k w.0 w.1 in
-      inl (b.old, b.at, ⊎_elim (λ (p : (k ≡ id) × (w.0 ≡ f b.old)). back b.old (subst (λ (n : NodeOf L). is_node_pending n ≡ true) p.1 w.2))
-          (λ (e : w.0 ≡ b.old). subst (λ (n : NodeOf L). is_node_pending n ≡ true) e w.2) b.is)
+      inl (
+        b.old,
+        b.at,
+        ⊎_elim (λ (p : (k ≡ id) × (w.0 ≡ f b.old)). back b.old (subst (λ (n : NodeOf L). is_node_pending n ≡ true) p.1 w.2))
+            (λ (e : w.0 ≡ b.old). subst (λ (n : NodeOf L). is_node_pending n ≡ true) e w.2) b.is,
+      )
 
 module _ {L : Type 0} (a : Algebra L) (t : Setting) where
   same : (s : State L) (step : TableStep) (r : TableReply) → logged_by r ≡ 0 → IsReplyOf step r → TakesOne s.nodes s.nodes r → Goes s step (unchanged a t s r)

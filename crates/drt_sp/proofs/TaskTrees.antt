@@ -493,7 +493,7 @@ module _ (f h : Plain) (ls : List Leaf) (top : ℕ) (old : IsForest f) (added : 
         let i = leaf_of low (omega arith) (let c = some_leaf some in omega (arith, c)) in
         let forest = added.built.forest in
         let here : length (node_values_in h low) ≡ bound = ap (λ n. length (node_values_in h n)) (sym i.number)
-            ∙ (ap length (leaf_at i.place i.leaf i.at).steps ∙ (is_leaf i.place i.leaf i.at).long) in
+        ∙ (ap length (leaf_at i.place i.leaf i.at).steps ∙ (is_leaf i.place i.leaf i.at).long) in
         let inside : low < length h.pool = (let a = forest.same in let b = long in let c = some_leaf some in omega (arith, a, b, c)) in
         All-from_get_or (λ xs. length xs ≡ bound) h.pool [] (λ k l. forest.bound k low l inside ∙ here)
 

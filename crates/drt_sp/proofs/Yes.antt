@@ -180,7 +180,7 @@ module _ (tasks : List Task) (order : List ℕ) (order_is : IsOrder tasks order)
         let more : All (HasPassingTime (first_graphs tasks order i ++ drop i (tree_graphs tasks trees)) (front ++ back) g p.vertex) (passes front p.items (Some (opening_stack trees i)))
         = passed_more (first_graphs tasks order i) (drop i (tree_graphs tasks trees)) front back i b a g p.vertex (passes front p.items (Some (opening_stack trees i))) narrow times_first in
         let same : passes (front ++ back) p.items (Some (opening_stack trees i)) ≡ passes front p.items (Some (opening_stack trees i)) = passes_more front back p.items
-            (opening_stack trees i) [] shape_first in
+        (opening_stack trees i) [] shape_first in
         let moved : All (HasPassingTime (tree_graphs tasks trees) (front ++ back) g p.vertex) (passes (front ++ back) p.items (Some (opening_stack trees i)))
         = subst (λ ats. All (HasPassingTime (tree_graphs tasks trees) (front ++ back) g p.vertex) ats) (sym same)
         (subst (λ gs. All (HasPassingTime gs (front ++ back) g p.vertex) (passes front p.items (Some (opening_stack trees i)))) split_graphs more) in

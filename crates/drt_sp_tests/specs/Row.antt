@@ -30,8 +30,11 @@ narrow budget = record {
 -- A job of 2 ticks with the deadline 5, below one task with the walks y, x and y y, whose second job comes 4 ticks later.
 abbrev pub wide : FrontierSetting
 wide = record {
-  forest = record { nodes = leaf 1 ∷ leaf 0 ∷ leaf 1 ∷ pair 0 1 2 ∷ pair 3 2 3 ∷ []; pool = (2 ∷ 2 ∷ 2 ∷ 2 ∷ 2 ∷ []) ∷ (3 ∷ 3 ∷ 3 ∷ 3 ∷ 3 ∷ []) ∷ (2 ∷ 2 ∷ 2 ∷ 2 ∷ 4 ∷ [])
-      ∷ (3 ∷ 3 ∷ 3 ∷ 3 ∷ 3 ∷ []) ∷ (3 ∷ 3 ∷ 3 ∷ 3 ∷ 4 ∷ []) ∷ [] };
+  forest = record {
+    nodes = leaf 1 ∷ leaf 0 ∷ leaf 1 ∷ pair 0 1 2 ∷ pair 3 2 3 ∷ [];
+    pool = (2 ∷ 2 ∷ 2 ∷ 2 ∷ 2 ∷ []) ∷ (3 ∷ 3 ∷ 3 ∷ 3 ∷ 3 ∷ []) ∷ (2 ∷ 2 ∷ 2 ∷ 2 ∷ 4 ∷ [])
+        ∷ (3 ∷ 3 ∷ 3 ∷ 3 ∷ 3 ∷ []) ∷ (3 ∷ 3 ∷ 3 ∷ 3 ∷ 4 ∷ []) ∷ [];
+  };
   roots = 4 ∷ [];
   wcet = 2;
   deadline = 5;

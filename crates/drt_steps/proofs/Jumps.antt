@@ -56,7 +56,7 @@ raise_all : (f : ℕ → ℕ) (offset w t n : ℕ) → offset < t → raise 0 w 
 raise_all f offset w t zero lt = refl
 raise_all f offset w t (suc n) lt =
     ap (λ y. y ∷ raise 0 w (values_from f (suc t) n))
-        (let e : f t + w ≡ f t + cond (nat_lt offset t) w 0 = ap (λ b. f t + cond b w 0) (let k : true ≡ nat_lt offset t = grind (arith, nat_tests) in k) in e)
+    (let e : f t + w ≡ f t + cond (nat_lt offset t) w 0 = ap (λ b. f t + cond b w 0) (let k : true ≡ nat_lt offset t = grind (arith, nat_tests) in k) in e)
     ∙ ap (λ ys. (f t + cond (nat_lt offset t) w 0) ∷ ys) (raise_all f offset w (suc t) n (omega arith))
 
 raise_some : (f : ℕ → ℕ) (offset w k t n : ℕ) → offset + 1 ≡ k + t → raise k w (values_from f t n) ≡ values_from (λ s. f s + cond (nat_lt offset s) w 0) t n
@@ -64,8 +64,8 @@ raise_some f offset w k t zero e = refl
 raise_some f offset w zero t (suc n) e = raise_all f offset w t (suc n) (omega arith)
 raise_some f offset w (suc k) t (suc n) e =
     ap (λ y. y ∷ raise k w (values_from f (suc t) n))
-        (let g : f t ≡ f t + cond (nat_lt offset t) w 0 = (let z : f t ≡ f t + 0 = omega arith in z)
-        ∙ ap (λ b. f t + cond b w 0) (let h : false ≡ nat_lt offset t = grind (arith, nat_tests) in h) in g)
+    (let g : f t ≡ f t + cond (nat_lt offset t) w 0 = (let z : f t ≡ f t + 0 = omega arith in z)
+    ∙ ap (λ b. f t + cond b w 0) (let h : false ≡ nat_lt offset t = grind (arith, nat_tests) in h) in g)
     ∙ ap (λ ys. (f t + cond (nat_lt offset t) w 0) ∷ ys) (raise_some f offset w k (suc t) n (omega arith))
 
 -- the values of the code's new jumps are the old values, raised

@@ -249,7 +249,7 @@ merging_own p q own other i j x y out k m order at next =
     let s : max x y ≡ max p q + total_rise out = m.sum in
     let from : 1 ≤ k.after = after_later 1 own i k order at in
     let last : AreJumpsBefore (k.after + 1) (grown_jumps k.after (max x y) (max (x + k.rise) y) out) = below_grown (k.after + 1) k.after (max x y) (max (x + k.rise) y)
-        out (m.own_last k at) (omega arith) in
+    out (m.own_last k at) (omega arith) in
     let g : total_rise (grown_jumps k.after (max x y) (max (x + k.rise) y) out) ≡ total_rise out + (max (x + k.rise) y - max x y) = total_grown k.after (max x y) (max (x + k.rise) y) out le in
     record {
       own_is = omega arith;
@@ -271,11 +271,11 @@ pub merging_other : (p q : ℕ) (own other : List Jump) (i j x y : ℕ) (out : L
     → Merging p q own other i (j + 1) x (y + k.rise) (grown_jumps k.after (max x y) (max x (y + k.rise)) out)
 merging_other p q own other i j x y out k m order at next =
     let r : Merging q p other own (j + 1) i (y + k.rise) x (grown_jumps k.after (max y x) (max (y + k.rise) x) out) = merging_own q p other own j i y x out k
-        (merging_turned p q own other i j x y out m) order at next in
+    (merging_turned p q own other i j x y out m) order at next in
     let a : max y x ≡ max x y = omega arith in
     let b : max (y + k.rise) x ≡ max x (y + k.rise) = omega arith in
     let e : grown_jumps k.after (max y x) (max (y + k.rise) x) out ≡ grown_jumps k.after (max x y) (max x (y + k.rise)) out = ap
-        (λ z. grown_jumps k.after z (max (y + k.rise) x) out) a ∙ ap (λ z. grown_jumps k.after (max x y) z out) b in
+    (λ z. grown_jumps k.after z (max (y + k.rise) x) out) a ∙ ap (λ z. grown_jumps k.after (max x y) z out) b in
     subst (λ (js : List Jump). Merging p q own other i (j + 1) x (y + k.rise) js) e (merging_turned q p other own (j + 1) i (y + k.rise) x (grown_jumps k.after (max y x) (max (y + k.rise) x) out) r)
 
 -- all jumps of both were taken

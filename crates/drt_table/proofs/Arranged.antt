@@ -295,10 +295,10 @@ module _ {L : Type 0} (a : Algebra L) (nodes : List (Held L)) (links heads : Lis
   taken_waiting rest t at is_next perm =
       let same : t.0.1 ≡ id = same_Some t.0.1 id (is_next ∙ sym next) in
       let here : slice_get (changed id (take_by w) nodes) t.0.1 ≡ Some (take_by w found.item) = ap (λ k. slice_get (changed id (take_by w) nodes) k) same
-          ∙ changed_at id (take_by w) nodes found.item found.at in
+      ∙ changed_at id (take_by w) nodes found.item found.at in
       popped_ticket a (changed id (take_by w) nodes) tickets rest (length (changed id (take_by w) nodes)) t (take_by w found.item)
       (subst (λ n. AreWaiting a (changed id (take_by w) nodes) tickets n) (sym (length-changed id (take_by w) nodes))
-          (still_waiting a nodes (changed id (take_by w) nodes) tickets (change_stays (take_by w) id nodes (take_calms w)) ok.waiting)) here refl perm
+      (still_waiting a nodes (changed id (take_by w) nodes) tickets (change_stays (take_by w) id nodes (take_calms w)) ok.waiting)) here refl perm
 
 pub not_pending : {L : Type 0} (n : NodeOf L) → is_taken n ≡ true → is_node_pending n ≡ false
 not_pending n = by_state n.state

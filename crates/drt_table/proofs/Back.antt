@@ -42,7 +42,7 @@ module _ {L : Type 0} (a : Algebra L) (t : Setting) (nodes : List (NodeOf L)) wh
               let same : a.vertex m ≡ u = walk_vertex a laws t u before m walk in
               let to : ℕ = (edge_of t.graph u c.edge).to in
               let longer : WalkTo a t to (u ∷ before)
-                  n.label = (c.edge, m, walk, subst (λ (x : ℕ). c.edge < out_degree t.graph x) same c.within, refl, c.label, walk_range a laws t w.0 w.1 n.label w.2) in
+              n.label = (c.edge, m, walk, subst (λ (x : ℕ). c.edge < out_degree t.graph x) same c.within, refl, c.label, walk_range a laws t w.0 w.1 n.label w.2) in
               let vertex : to ≡ a.vertex n.label = sym (walk_vertex a laws t to (u ∷ before) n.label longer) in
               subst (λ (ws : List ℕ). IsWalkBack a t ws l) (sym (append_assoc done (a.vertex n.label ∷ []) (u ∷ before)))
               (subst (λ (x : ℕ). IsWalkBack a t (done ++ x ∷ (u ∷ before)) l) vertex (h to (u ∷ before) longer)),

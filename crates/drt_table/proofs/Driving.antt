@@ -133,9 +133,9 @@ module _ {L : Type 0} (a : Algebra L) (w : ℕ) where
       let can : CanStep a t (replay_from a t (state_of old) d.more) g.worker g.step =
       subst (λ (s : State L). CanStep a t s g.worker g.step) d.state (subst (λ (x : Setting). CanStep a x (state_of mid) g.worker g.step) d.setting g.can) in
       let state_t : state_of new ≡ (step_of a t (state_of mid) g.worker g.step).state = subst
-          (λ (x : Setting). state_of new ≡ (step_of a x (state_of mid) g.worker g.step).state) d.setting g.is_step.state in
+      (λ (x : Setting). state_of new ≡ (step_of a x (state_of mid) g.worker g.step).state) d.setting g.is_step.state in
       let state_r : state_of new ≡ (step_of a t (replay_from a t (state_of old) d.more) g.worker g.step).state = subst
-          (λ (s : State L). state_of new ≡ (step_of a t s g.worker g.step).state) d.state state_t in
+      (λ (s : State L). state_of new ≡ (step_of a t s g.worker g.step).state) d.state state_t in
       let log_r : (step_of a t (replay_from a t (state_of old) d.more) g.worker g.step).state.log ≡ (replay_from a t (state_of old) d.more).log ++ e ∷ [] =
       ap (λ (s : State L). s.log) (sym state_r) ∙ (g.log ∙ ap (λ (s : State L). s.log ++ e ∷ []) d.state) in
       let driven : IsDriven a t w (replay_from a t (state_of old) d.more) g.worker g.step =

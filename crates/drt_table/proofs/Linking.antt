@@ -157,7 +157,7 @@ module _ {L : Type 0} (a : Algebra L) (nodes : List (Held L)) (links heads : Lis
       by_case k h is b (inr p) =
           let r : rank a k h ≡ rank a (length nodes) z = ap (λ j. rank a j h) p.0 ∙ ap (λ (y : Held L). rank a (length nodes) y) p.1 in
           let le : rank a (length nodes) z ≤ rank a q
-              next.held = (late (sym is.vertex ∙ ap (λ (y : Held L). a.vertex y.node.label) p.1) (subst (λ n. IsLinkBelow m n) r b)).1 q next.held refl next.is in
+          next.held = (late (sym is.vertex ∙ ap (λ (y : Held L). a.vertex y.node.label) p.1) (subst (λ n. IsLinkBelow m n) r b)).1 q next.held refl next.is in
           omega arith
 
   -- z comes first below a rank, where all others below it have less offset
@@ -203,7 +203,7 @@ module _ {L : Type 0} (a : Algebra L) (nodes : List (Held L)) (links heads : Lis
 
   links_at : (links' : List (Option ℕ)) (q : Option ℕ) → length links' ≡ length nodes → Earlier links' → IsNext a (nodes ++ z ∷ []) (a.vertex z.node.label) (Some (rank a (length nodes) z)) q
       → (i : ℕ) (h : Held L) (o : Option ℕ) → slice_get (nodes ++ z ∷ []) i ≡ Some h → IsTrue (is_kept h.node) → slice_get (links' ++ q ∷ []) i ≡ Some o
-          → IsNext a (nodes ++ z ∷ []) (a.vertex h.node.label) (Some (rank a i h)) o
+      → IsNext a (nodes ++ z ∷ []) (a.vertex h.node.label) (Some (rank a i h)) o
   links_at links' q len earlier last i h o at kept link = by_place (at_pushed nodes z i h at) (at_pushed links' q i o link)
     where
       by_place : ((i < length nodes) × (slice_get nodes i ≡ Some h)) ⊎ ((i ≡ length nodes) × (h ≡ z))
@@ -227,7 +227,7 @@ module _ {L : Type 0} (a : Algebra L) (nodes : List (Held L)) (links heads : Lis
         → (v ≡ a.vertex z.node.label) ⊎ (v ≡ a.vertex z.node.label → ⊥) → IsNext a (nodes ++ z ∷ []) v None o
     head_first v o s (inl e) =
         let o_is : o ≡ Some (length nodes) = set_here heads (a.vertex z.node.label) (Some (length nodes)) o
-            (subst (λ k. slice_get (set heads (a.vertex z.node.label) (Some (length nodes))) k ≡ Some o) e s) in
+        (subst (λ k. slice_get (set heads (a.vertex z.node.label) (Some (length nodes))) k ≡ Some o) e s) in
         subst (λ u. IsNext a (nodes ++ z ∷ []) u None o) (sym e)
         (subst (λ u. IsNext a (nodes ++ z ∷ []) (a.vertex z.node.label) None u) (sym o_is) (is_first None tt (λ k h is b. less k h is)))
     head_first v o s (inr ne) = elsewhere v None o ne (ok.heads_ok v o (sym (set_other heads (a.vertex z.node.label) v (Some (length nodes)) ne) ∙ s))
@@ -303,7 +303,7 @@ module _ {L : Type 0} (a : Algebra L) (nodes : List (Held L)) (links heads : Lis
       heads_ok = λ v o s. let old : IsNext a nodes v None o = ok.heads_ok v o s in stays v None o (λ e b. no_earlier v None o e tt old) old;
       links_ok = links_at (set links p (Some (length nodes))) q (length-set links p (Some (length nodes)) ∙ ok.as_many) earlier_later
           (comes_after (Some (rank a p g)) q (λ k h is b. let lt : rank a (length nodes) z < rank a p g = z_below in let l : rank a k h < rank a (length nodes) z = b in
-              let s : rank a k h < rank a p g = omega arith in s) less next);
+          let s : rank a k h < rank a p g = omega arith in s) less next);
     }
 
   -- what came after `last` comes after z

@@ -164,8 +164,8 @@ module _ {L : Type 0} (a : Algebra L) (t : Setting) where
       new_of i m b (inl p) =
           let same : b.old ≡ least.item = same_Some b.old least.item (sym b.at ∙ (ap (λ j. slice_get s.nodes j) p.0 ∙ least.at)) in
           this (ap (λ (z : NodeOf L). z.label) p.1 ∙ ap (λ (z : NodeOf L). z.label) same)
-              (ap (λ (z : NodeOf L). z.dropped_by) p.1 ∙ ap (λ (z : NodeOf L). z.dropped_by) same)
-              (ap (λ (z : NodeOf L). z.offered) p.1 ∙ ap (λ (z : NodeOf L). z.offered) same) (ap (λ (z : NodeOf L). z.state) p.1)
+          (ap (λ (z : NodeOf L). z.dropped_by) p.1 ∙ ap (λ (z : NodeOf L). z.dropped_by) same)
+          (ap (λ (z : NodeOf L). z.offered) p.1 ∙ ap (λ (z : NodeOf L). z.offered) same) (ap (λ (z : NodeOf L). z.state) p.1)
       new_of i m b (inr q) = other (b.at ∙ ap (λ z. Some z) (sym q))
 
       new_at : (i : ℕ) (m : NodeOf L) → slice_get (changed k (λ n. record n { state = TakenBy w }) s.nodes) i ≡ Some m → New i m
@@ -313,7 +313,7 @@ module _ {L : Type 0} (a : Algebra L) (t : Setting) where
     extended_later laws n k walk lt =
         let e = edge_of t.graph (a.vertex n.label) k in
         let within : a.vertex n.label < length t.graph.vertices = subst (λ (x : ℕ). x < length t.graph.vertices) (sym (walk_vertex a laws t walk.0 walk.1 n.label walk.2))
-            (walk_within a laws t sound walk.0 walk.1 n.label walk.2) in
+        (walk_within a laws t sound walk.0 walk.1 n.label walk.2) in
         let le : separation t ≤ e.sep = separation_le t sound (a.vertex n.label) k within lt in
         let is : a.offset (extended a t n.label k) ≡ a.offset n.label + e.sep = laws.extended_offset n.label e.sep e.to (vertex_of t.graph e.to).wcet in
         omega (arith, le, is)

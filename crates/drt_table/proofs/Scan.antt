@@ -73,17 +73,26 @@ module _ {A : Type 0} (p : A → Bool) (xs : List A) (ks : List ℕ) where
     min_cases m n = grind arith
 
     pub least_passed : (o : Option ℕ) → IsLeastOf i o → p x ≡ true → IsLeastOf (i + 1) (smaller o (Some k))
-    least_passed None h e = record
-        { item = x; at = at_x; passes = e; least = seen_more (λ m y. p y ≡ true → k ≤ m) i k x
-        (weaker (λ m y. p y ≡ false) (λ m y. p y ≡ true → k ≤ m) i (λ m y f q. absurd (cc (f, q))) h) at at_x (λ q. omega arith) }
+    least_passed None h e = record {
+      item = x;
+      at = at_x;
+      passes = e;
+      least = seen_more (λ m y. p y ≡ true → k ≤ m) i k x
+          (weaker (λ m y. p y ≡ false) (λ m y. p y ≡ true → k ≤ m) i (λ m y f q. absurd (cc (f, q))) h) at at_x (λ q. omega arith);
+    }
     least_passed (Some b) h e = by_case (min_cases b k)
       where
         by_case : ((min b k ≡ b) × (b ≤ k)) ⊎ ((min b k ≡ k) × (k ≤ b)) → LeastOf (i + 1) (min b k)
         by_case (inl c) = subst (λ (n : ℕ). LeastOf (i + 1) n) (sym c.0)
             (record { item = h.item; at = h.at; passes = h.passes; least = seen_more (λ m y. p y ≡ true → b ≤ m) i k x h.least at at_x (λ q. c.1) })
         by_case (inr c) = subst (λ (n : ℕ). LeastOf (i + 1) n) (sym c.0)
-            (record { item = x; at = at_x; passes = e; least = seen_more (λ m y. p y ≡ true → k ≤ m) i k x
-            (weaker (λ m y. p y ≡ true → b ≤ m) (λ m y. p y ≡ true → k ≤ m) i (λ m y f q. let le : b ≤ m = f q in let c1 : k ≤ b = c.1 in omega arith) h.least) at at_x (λ q. omega arith) })
+            (record {
+              item = x;
+              at = at_x;
+              passes = e;
+              least = seen_more (λ m y. p y ≡ true → k ≤ m) i k x
+                  (weaker (λ m y. p y ≡ true → b ≤ m) (λ m y. p y ≡ true → k ≤ m) i (λ m y f q. let le : b ≤ m = f q in let c1 : k ≤ b = c.1 in omega arith) h.least) at at_x (λ q. omega arith);
+            })
 
   pub least_all : (o : Option ℕ) → Covers → IsLeastOf (length ks) o → o ≡ first p xs
   least_all None covers h = first_none p xs (λ k y lt g. all_fail covers h k y g)
@@ -151,7 +160,7 @@ module _ {A : Type 0} (p : A → Bool) (xs : List A) (ks : List ℕ) where
         earliest_is p f xs b.0 h.item h.at h.passes
         (λ j y g q. let le : b.1 ≤ f y = (seen_all (NoLater b.0 b.1) covers h.best j y g q q).0 in omega arith)
         (λ j y lt g q. strict j y lt v (seen_all (NoLater b.0 b.1) covers h.best j y g q q).0 (seen_all (NoLater b.0 b.1) covers h.best j y g q q).1
-            (same_or_more (f y) b.1 (seen_all (NoLater b.0 b.1) covers h.best j y g q q).0))
+        (same_or_more (f y) b.1 (seen_all (NoLater b.0 b.1) covers h.best j y g q q).0))
       where
         same_or_more : (m n : ℕ) → n ≤ m → (n < m) ⊎ (m ≡ n)
         same_or_more m n le = grind arith

@@ -53,7 +53,7 @@ module _ {L : Type 0} (m : ℕ) where
       let here : node_entries x < m = subst (λ (z : NodeOf L). node_entries z < m) (sym same) less in
       let rest : total node_entries xs ≤ kept_count xs * m = sum_few xs (λ i n g. h (suc i) n g) in
       let product : (one_if (is_kept x) + kept_count xs) * m ≡ m + kept_count xs * m = ap (λ (j : ℕ). (j + kept_count xs) * m) one
-          ∙ (let p : (1 + kept_count xs) * m ≡ m + kept_count xs * m = grind arith in p) in
+      ∙ (let p : (1 + kept_count xs) * m ≡ m + kept_count xs * m = grind arith in p) in
       omega arith
   sum_fewer (x ∷ xs) h (suc k) y at kept less =
       let here : node_entries x ≤ one_if (is_kept x) * m = entries_at x (is_kept x) refl (h 0 x refl) in
@@ -79,8 +79,14 @@ module _ {L : Type 0} (a : Algebra L) (laws : Laws a) (t : Setting) (takes_bound
   open_by nodes None None order e f h = absurd (cc)
   open_by nodes (Some k) o order e f h =
       let x : Earliest is_node_pending (offset a t) nodes k = found_earliest is_node_pending (offset a t) nodes k e in
-      record { number = k; node = x.item; at = x.at; kept = order.pending_kept k x.item x.at x.passes; few = let s : state_entries x.item.state ≡ 0 = ap state_entries
-          (pending_state x.item x.passes) in omega arith }
+      record {
+        number = k;
+        node = x.item;
+        at = x.at;
+        kept = order.pending_kept k x.item x.at x.passes;
+        few = let s : state_entries x.item.state ≡ 0 = ap state_entries
+            (pending_state x.item x.passes) in omega arith;
+      }
   open_by nodes None (Some k) order e f h =
       let x : Earliest is_taken (offset a t) nodes k = found_earliest is_taken (offset a t) nodes k f in
       record { number = k; node = x.item; at = x.at; kept = order.taken_kept k x.item x.at x.passes; few = taken_few x.item.state x.passes }
@@ -94,7 +100,7 @@ module _ {L : Type 0} (a : Algebra L) (laws : Laws a) (t : Setting) (takes_bound
         let w = facts.walks i n at in
         let few : n.offered ≤ out_degree t.graph (a.vertex n.label) = facts.offered i n at in
         let within : a.vertex n.label < length t.graph.vertices = subst (λ (x : ℕ). x < length t.graph.vertices) (sym (walk_vertex a laws t w.0 w.1 n.label w.2))
-            (walk_within a laws t sound w.0 w.1 n.label w.2) in
+        (walk_within a laws t sound w.0 w.1 n.label w.2) in
         let edges : out_degree t.graph (a.vertex n.label) ≤ g = degree (a.vertex n.label) within in
         omega arith
 
@@ -113,7 +119,7 @@ module _ {L : Type 0} (a : Algebra L) (laws : Laws a) (t : Setting) (takes_bound
         let s : state_entries o.node.state ≤ 1 = o.few in
         let entries : length (replay a t es).log ≡ total node_entries (replay a t es).nodes = (run_bounded a laws t takes_bound sound es run).entries in
         let fewer : total node_entries (replay a t es).nodes < kept_count (replay a t es).nodes * (g + 2) = sum_fewer (g + 2) (replay a t es).nodes each o.number o.node
-            o.at o.kept (omega (arith, k, f, s)) in
+        o.at o.kept (omega (arith, k, f, s)) in
         omega arith
 
     pub run_short : IsShort a t g (replay a t es)

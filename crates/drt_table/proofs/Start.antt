@@ -73,7 +73,7 @@ module _ {L : Type 0} (a : Algebra L) where
   low_in nodes new v l low e here =
       subst (λ (xs : List (Held L)). AllOf (λ (h : Held L). a.vertex h.node.label < v + 1) xs) (sym e)
       (all_push (λ (h : Held L). a.vertex h.node.label < v + 1) nodes (record { node = fresh l None; spare = true })
-          (λ k h at. let lt : a.vertex h.node.label < v = low k h at in omega arith) (omega arith))
+      (λ k h at. let lt : a.vertex h.node.label < v = low k h at in omega arith) (omega arith))
 
   low_out : (nodes : List (Held L)) (v : ℕ) → AllOf (λ (h : Held L). a.vertex h.node.label < v) nodes → AllOf (λ (h : Held L). a.vertex h.node.label < v + 1) nodes
   low_out nodes v low k h at = let lt : a.vertex h.node.label < v = low k h at in omega arith

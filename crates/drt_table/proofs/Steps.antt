@@ -119,7 +119,7 @@ module _ {L : Type 0} (a : Algebra L) (laws : Laws a) (t : Setting) (nodes : Lis
         let b : After id count_one nodes i m = after_change id count_one nodes i m h in
         let s : SameShape b.new m = shape_of count_one count_keeps i id b.new m b.is in
         true_not_false (both (is_kept b.new) (a.dominates b.new.label l) (ap is_none s.dropped_by ∙ kept) (ap (λ x. a.dominates x l) s.label ∙ dom))
-            (none_found (dominating a t l) (changed id count_one nodes) none i b.new b.at);
+        (none_found (dominating a t l) (changed id count_one nodes) none i b.new b.at);
   }
 
   covered_by : (k : ℕ) → first (dominating a t l) (changed id count_one nodes) ≡ Some k → IsCovered a t nodes l
@@ -176,7 +176,7 @@ module _ {L : Type 0} (a : Algebra L) (laws : Laws a) (t : Setting) where
       let same : m ≡ n = same_Some m n (sym at ∙ h) in
       let is : n.offered ≡ k = sym (k_is ∙ ap (λ (x : NodeOf L). x.offered) same) in
       let more : n.offered < out_degree t.graph (a.vertex n.label) = subst (λ (x : NodeOf L). n.offered < out_degree t.graph (a.vertex x.label)) same
-          (subst (λ (i : ℕ). i < out_degree t.graph (a.vertex m.label)) (sym is) lt) in
+      (subst (λ (i : ℕ). i < out_degree t.graph (a.vertex m.label)) (sym is) lt) in
       subst (λ (i : ℕ). Facts a t (offered a t s e id (extended a t n.label i)).state.nodes) is (offered_keeps a laws t s e id n h more facts)
 
   pub step_keeps : (s : State L) (w : ℕ) (step : TableStep) → Facts a t s.nodes → CanStep a t s w step → Facts a t (step_of a t s w step).state.nodes

@@ -127,7 +127,7 @@ module _ {L : Type 0} (a : Algebra L) (laws : Laws a) (l : L) (number : ℕ) (xs
     rest m (Some i) e n k h is b =
         let le : rank a k h ≤ rank a i n.held = n.most k h is b in
         let no : a.offset h.node.label ≤ a.offset n.held.node.label = no_greater (a.offset h.node.label) (a.offset n.held.node.label) k i
-            (small a ns s.linked.few (a.vertex l) k h is) (small a ns s.linked.few (a.vertex l) i n.held n.is) le in
+        (small a ns s.linked.few (a.vertex l) k h is) (small a ns s.linked.few (a.vertex l) i n.held n.is) le in
         let less : a.offset n.held.node.label < a.offset l = stop i n.held e n.is.at in
         omega arith
 
@@ -254,7 +254,7 @@ module _ {L : Type 0} (a : Algebra L) (laws : Laws a) (l : L) (number : ℕ) (xs
     last_dropped : IsAfter a (changed i (drop_held a l number) ns) (a.vertex l) last o
     last_dropped = subst (λ v. IsAfter a (changed i (drop_held a l number) ns) v last o) here.vertex
         (next_unlinked a ns links heads s.linked i x at here.kept o link (drop_held a l number) (gone a l number x drops_x) last
-            (subst (λ v. IsAfter a ns v last (Some i)) (sym here.vertex) s.last_is))
+        (subst (λ v. IsAfter a ns v last (Some i)) (sym here.vertex) s.last_is))
 
     by_place : (k : ℕ) (z : Held L) → slice_get xs k ≡ Some z → (k ≡ i) ⊎ (k ≡ i → ⊥) → IsPassed a l number xs ns (Some i) k z → IsPassed a l number xs (changed i (drop_held a l number) ns) o k z
     by_place k z at_z (inl e) passed =

@@ -158,7 +158,7 @@ module _ {L : Type 0} (a : Algebra L) (v : View L) where
   take_outcome : (w : ℕ) (p o : Option ℕ) (b c : Bool) (r : TableReply) → Found-for-take p o b c r → outcome a v w Take ≡ after_reply (state_of v) w r (taken_node r)
   take_outcome w p o b c r f =
       ap (λ x. taken a (setting_of v) (state_of v) w x (holder a (setting_of v) (state_of v).nodes))
-          (earliest-map is_node_pending (offset a (setting_of v)) (λ (h : Held L). h.node) v.nodes ∙ sym f.next_is)
+      (earliest-map is_node_pending (offset a (setting_of v)) (λ (h : Held L). h.node) v.nodes ∙ sym f.next_is)
       ∙ (ap (λ x. taken a (setting_of v) (state_of v) w p x) (earliest-map is_taken (offset a (setting_of v)) (λ (h : Held L). h.node) v.nodes ∙ sym f.holder_is)
       ∙ (taken_is (state_of v) w p o b c f.full (soon_same p o ∙ sym f.soon)
       ∙ ap (λ q. after_reply (state_of v) w q (taken_node q)) (sym f.reply)))
@@ -229,8 +229,8 @@ module _ {L : Type 0} (a : Algebra L) (v : View L) (w id k : ℕ) (l : L) where
   added-node xs =
       map-append (λ (h : Held L). h.node) (map (drop_held a l (length xs)) xs) (record { node = fresh l (Some id); spare = true } ∷ [])
       ∙ (ap (λ ys. ys ++ fresh l (Some id) ∷ [])
-          (map-map_with (λ (h : Held L). h.node) (drop_held a l (length xs)) (drop_by a (setting_of v) l (length xs))
-          (λ h. drop_node a v l (length xs) h (is_kept h.node && a.dominates l h.node.label)) xs)
+      (map-map_with (λ (h : Held L). h.node) (drop_held a l (length xs)) (drop_by a (setting_of v) l (length xs))
+      (λ h. drop_node a v l (length xs) h (is_kept h.node && a.dominates l h.node.label)) xs)
       ∙ ap (λ n. map (drop_by a (setting_of v) l n) (map (λ (h : Held L). h.node) xs) ++ fresh l (Some id) ∷ []) (sym (length-map xs (λ (h : Held L). h.node))))
 
   added-spare : (xs : List (Held L)) → map (λ (h : Held L). h.spare) (compared_nodes a l id xs None) ≡ map (λ (h : Held L). h.spare) xs ++ true ∷ []
@@ -275,7 +275,7 @@ module _ {L : Type 0} (a : Algebra L) (v : View L) (w id k : ℕ) (l : L) where
       let q : TableReply = cond b (compared_reply xs o) OutOfRange in
       let at_node : slice_get s.nodes id ≡ Some x.node = slice_get-map node v.nodes id ∙ ap (λ y. option_map node y) at in
       let step_1 : outcome a v w (Offer id k) ≡ offered_at a t s e id k (slice_get s.nodes id) = ap
-          (λ y. cond y (unchanged a t s Spent) (offered_at a t s e id k (slice_get s.nodes id))) (not_full a v h) in
+      (λ y. cond y (unchanged a t s Spent) (offered_at a t s e id k (slice_get s.nodes id))) (not_full a v h) in
       let step_2 : offered_at a t s e id k (slice_get s.nodes id) ≡ offered a t s e id (extended a t x.node.label k) = ap (λ y. offered_at a t s e id k y) at_node in
       let step_3 : offered a t s e id (extended a t x.node.label k) ≡ offered a t s e id l = ap (λ y. offered a t s e id y) (sym l_is) in
       let step_4 : offered a t s e id l ≡ cond (in_range a t l) (compared a t s e (map node xs) id l (first (dominating a t l) (map node xs))) (logged a t s e (map node xs) OutOfRange) =
@@ -402,7 +402,7 @@ pub table_same_nodes : {L : Type 0} (a : Algebra L) (old new : View L) (id : ℕ
     → new.nodes ≡ changed id hand_out old.nodes → new.log ≡ old.log → IsTable a new
 table_same_nodes {L} a old new id is set nodes log =
     let same : state_of new ≡ state_of old = state_eq (map (λ (h : Held L). h.node) new.nodes) (map (λ (h : Held L). h.node) old.nodes) new.log old.log
-        (ap (λ xs. map (λ (h : Held L). h.node) xs) nodes ∙ map-changed_same (λ (h : Held L). h.node) hand_out (λ _. refl) id old.nodes) log in
+    (ap (λ xs. map (λ (h : Held L). h.node) xs) nodes ∙ map-changed_same (λ (h : Held L). h.node) hand_out (λ _. refl) id old.nodes) log in
     record {
       sound = subst (λ (g : Digraph). IsSoundGraph g) (ap (λ (x : Setting). x.graph) (sym set)) is.sound;
       bound = subst (λ (x : ℕ). IsTrue (a.takes_bound x)) (ap (λ (x : Setting). x.bound) (sym set)) is.bound;
@@ -424,7 +424,7 @@ module _ {L : Type 0} (a : Algebra L) (laws : Laws a) (v : View L) (is : IsTable
   node_extendable =
       let w = node_walk in
       laws.extendable h.node.label (vertex_of v.graph (a.vertex h.node.label)).deadline v.bound (walk_of a laws (setting_of v) is.bound w.0 w.1 h.node.label w.2)
-          (walk_range a laws (setting_of v) w.0 w.1 h.node.label w.2)
+      (walk_range a laws (setting_of v) w.0 w.1 h.node.label w.2)
 
   pub node_holds : (w : ℕ) → h.node.state ≡ TakenBy w → Holds a (setting_of v) (state_of v) w id h.node
   node_holds w e = record { at = at_node a laws v is id h at; held = e }
@@ -437,7 +437,7 @@ pub held_at : {L : Type 0} (a : Algebra L) (laws : Laws a) (v : View L) → IsTa
     → (h : Held L) × (slice_get v.nodes id ≡ Some h) × IsTrue (is_taken h.node)
 held_at {L} a laws v is w id n holds =
     let lt : id < length v.nodes = (let h : id < length (state_of v).nodes = slice_get_within (state_of v).nodes id n holds.at in
-        let e : length (state_of v).nodes ≡ length v.nodes = length-map v.nodes (λ h. h.node) in omega arith) in
+    let e : length (state_of v).nodes ≡ length v.nodes = length-map v.nodes (λ h. h.node) in omega arith) in
     let x : (h : Held L) × (slice_get v.nodes id ≡ Some h) = get_within v.nodes id lt in
     let same : n ≡ x.0.node = same_Some n x.0.node (sym holds.at ∙ at_node a laws v is id x.0 x.1) in
     (x.0, x.1, ap (λ (m : NodeOf L). is_taken m) (sym same) ∙ ap is_taken_state holds.held)

@@ -117,7 +117,7 @@ module _ {L : Type 0} (a : Algebra L) (nodes : List (Held L)) where
           by_case (inr s) =
               let same : h ≡ x = same_Some h x (sym at ∙ (ap (λ i. slice_get nodes i) s ∙ g)) in
               subst (λ (u : Ticket). Contains (ticket m k ∷ tickets) u) (ap (λ i. ticket m i) s ∙ ap (λ o. ticket o j) (e ∙ ap (λ (y : Held L). held_offset a y) same))
-                  (contains_head (ticket m k) tickets)
+              (contains_head (ticket m k) tickets)
 
   -- a ticket of a node that doesn't wait is gone
   pub popped_ticket : (tickets rest : List Ticket) (number : ℕ) (t : Ticket) (h : Held L) → AreWaiting a nodes tickets number → slice_get nodes t.0.1 ≡ Some h

@@ -85,9 +85,10 @@ module _ {L : Type 0} (a : Algebra L) (laws : Laws a) (t : Setting) (takes_bound
     once_at i j m n e (last g is) (last h js) = g ∙ sym h
 
     distinct_pushed : AreDistinct (added a t nodes id l)
-    distinct_pushed = record
-        { once = λ i j m n hm hn e. once_at i j m n e (before_push (drop_by a t l (length nodes)) nodes (fresh l (Some id)) i m hm)
-        (before_push (drop_by a t l (length nodes)) nodes (fresh l (Some id)) j n hn) }
+    distinct_pushed = record {
+      once = λ i j m n hm hn e. once_at i j m n e (before_push (drop_by a t l (length nodes)) nodes (fresh l (Some id)) i m hm)
+          (before_push (drop_by a t l (length nodes)) nodes (fresh l (Some id)) j n hn);
+    }
 
   entries_logged : (s : State L) (e : Entry) (ns : List (NodeOf L)) (r : TableReply) → total node_entries ns ≡ total node_entries s.nodes + 1
       → length s.log ≡ total node_entries s.nodes → length (logged a t s e ns r).state.log ≡ total node_entries (logged a t s e ns r).state.nodes
@@ -109,8 +110,11 @@ module _ {L : Type 0} (a : Algebra L) (laws : Laws a) (t : Setting) (takes_bound
         let kept : IsTrue (is_kept f.item) = order.pending_kept i f.item f.at f.passes in
         let pending : state_entries f.item.state ≡ 0 = ap state_entries (pending_state f.item f.passes) in
         let more : total node_entries (changed i g s.nodes) ≡ total node_entries s.nodes + 1 = sum-changed node_entries g i s.nodes f.item f.at (one_more g f.item kept kept (omega arith)) in
-        record { distinct_labels = distinct_changed i g s.nodes (λ _. refl) k.distinct_labels; entries = entries_logged s (record { worker = w; step = Take })
-            (changed i g s.nodes) (Taken i) more k.entries }
+        record {
+          distinct_labels = distinct_changed i g s.nodes (λ _. refl) k.distinct_labels;
+          entries = entries_logged s (record { worker = w; step = Take })
+              (changed i g s.nodes) (Taken i) more k.entries;
+        }
 
     keeps_taken : (w : ℕ) (p o : Option ℕ) → next a t s.nodes ≡ p → Keeps (taken a t s w p o).state
     keeps_taken w None None e = k
@@ -119,7 +123,7 @@ module _ {L : Type 0} (a : Algebra L) (laws : Laws a) (t : Setting) (takes_bound
     keeps_taken w (Some i) (Some h) e =
         keeps_cond (is_full a t s) _ _ k
         (keeps_cond (nat_lt (offset_at a t s.nodes i) (offset_at a t s.nodes h + separation t)) (takes a t s w i) (unchanged a t s (Busy h))
-            (keeps_takes w i (found_earliest is_node_pending (offset a t) s.nodes i e)) k)
+        (keeps_takes w i (found_earliest is_node_pending (offset a t) s.nodes i e)) k)
 
     keeps_close : (w id : ℕ) (n : NodeOf L) → slice_get s.nodes id ≡ Some n → n.state ≡ TakenBy w → Keeps (step_of a t s w (Close id)).state
     keeps_close w id n at held =
@@ -128,8 +132,11 @@ module _ {L : Type 0} (a : Algebra L) (laws : Laws a) (t : Setting) (takes_bound
         let one : state_entries n.state ≡ 1 = ap state_entries held in
         let more : total node_entries (changed id g s.nodes) ≡ total node_entries s.nodes + 1 = sum-changed node_entries g id s.nodes n at (one_more g n kept kept (omega arith)) in
         keeps_cond (is_full a t s) _ _ k
-            (record { distinct_labels = distinct_changed id g s.nodes (λ _. refl) k.distinct_labels; entries = entries_logged s (record { worker = w; step = Close id })
-            (changed id g s.nodes) Closed more k.entries })
+        (record {
+          distinct_labels = distinct_changed id g s.nodes (λ _. refl) k.distinct_labels;
+          entries = entries_logged s (record { worker = w; step = Close id })
+              (changed id g s.nodes) Closed more k.entries;
+        })
 
     module _ (e : Entry) (w id : ℕ) (n : NodeOf L) (at : slice_get s.nodes id ≡ Some n) (held : n.state ≡ TakenBy w) (l : L) (later : offset a t n + separation t ≤ a.offset l) where
       counted_more : total node_entries (changed id count_one s.nodes) ≡ total node_entries s.nodes + 1
@@ -156,7 +163,7 @@ module _ {L : Type 0} (a : Algebra L) (laws : Laws a) (t : Setting) (takes_bound
       dropped_none : (j : ℕ) (m : NodeOf L) → slice_get (changed id count_one s.nodes) j ≡ Some m → IsTrue (is_kept m) → IsTrue (a.dominates l m.label) → node_entries m ≡ 0
       dropped_none j m h kept d =
           let p : IsTrue (is_node_pending m) = only_pending a t sound laws (changed id count_one s.nodes) id (count_one n)
-              (counted_at a t sound laws s e w id n at held order) (taken_is a t n w held) l later now j m h kept d m.state refl in
+          (counted_at a t sound laws s e w id n at held order) (taken_is a t n w held) l later now j m h kept d m.state refl in
           let none : m.offered ≡ 0 = now.pending_idle j m h p in
           let state : state_entries m.state ≡ 0 = ap state_entries (pending_state m p) in
           let both = kept_entries m kept in

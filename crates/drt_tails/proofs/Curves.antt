@@ -107,7 +107,7 @@ known_least known (j ∷ js) t n above =
     let more : known ≤ k = cond_both (nat_lt j.offset t) j.work known (λ x. known ≤ x) (λ e. here) (λ e. omega arith) in
     let least : k ≤ j.work = cond_both (nat_lt j.offset t) j.work known (λ x. x ≤ j.work) (λ e. omega arith) (λ e. here) in
     let rest = known_least k js t (AllNeighbours-tail RisesTo j js n)
-        (All-weaker (RisesTo j) (λ x. k ≤ x.work) (λ x r. let r1 = r.1 in omega (arith, least, r1)) js (first_with_each RisesTo rises_on j js n)) in
+    (All-weaker (RisesTo j) (λ x. k ≤ x.work) (λ x r. let r1 = r.1 in omega (arith, least, r1)) js (first_with_each RisesTo rises_on j js n)) in
     omega (arith, more, rest)
 
 -- The value before t is no less than the work of each jump with an offset below t.
@@ -116,7 +116,7 @@ unfolding last_work
 jump_counts known [] t i d n l early = absurd (omega arith)
 jump_counts known (j ∷ js) t zero d n l early =
     rw (lt-ltb j.offset t early)
-        (known_least j.work js t (AllNeighbours-tail RisesTo j js n)
-        (All-weaker (RisesTo j) (λ x. j.work ≤ x.work) (λ x r. let r1 = r.1 in omega (arith, r1)) js (first_with_each RisesTo rises_on j js n)))
+    (known_least j.work js t (AllNeighbours-tail RisesTo j js n)
+    (All-weaker (RisesTo j) (λ x. j.work ≤ x.work) (λ x r. let r1 = r.1 in omega (arith, r1)) js (first_with_each RisesTo rises_on j js n)))
 jump_counts known (j ∷ js) t (suc i) d n l early =
     jump_counts (cond (nat_lt j.offset t) j.work known) js t i d (AllNeighbours-tail RisesTo j js n) (omega arith) early

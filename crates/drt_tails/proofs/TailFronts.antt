@@ -112,7 +112,7 @@ module _ (g h : Digraph) (bound : ℕ) (sound : IsSoundGraph g) (turned : IsTurn
         subst (All (IsAboveJump bound g tail u k)) (sym (curve_at (edge_of g u k).to lv))
         (All-weaker (IsOfEntry front (edge_of g u k).to) (IsAboveJump bound g tail u k)
         (λ j source near. subst (λ jumps. wcet g u + j.work ≤ value_before jumps (j.offset + (edge_of g u k).sep + 1)) (sym (curve_at u l))
-            (extension_is u (edge_of g u k).to (edge_of g u k).sep edge l j source near))
+        (extension_is u (edge_of g u k).to (edge_of g u k).sep edge l j source near))
         (jumps_at front (edge_of g u k).to) (of_entries front (edge_of g u k).to))
 
     pub bounds_is : BoundsWalks bound g tail

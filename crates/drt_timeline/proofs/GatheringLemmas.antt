@@ -120,10 +120,10 @@ module _ (j : ℕ) (job : Job) (finish : Option ℕ) (until : ℕ) where
   job_distinct =
       let late : IsDistinct same_kind (deadline_events j job finish until ++ release_events j job until)
       = distinct_append (λ e. mark_rank e.mark ≤ 2) (λ e. mark_rank e.mark ≡ 3) (λ e f p q. other_mark e f (λ s. omega (arith, p, q, s)))
-          (deadline_events j job finish until) (release_events j job until)
+      (deadline_events j job finish until) (release_events j job until)
       (deadline_all (λ e. mark_rank e.mark ≤ 2) (λ _. (deadline_rank job finish).1)) (release_all (λ e. mark_rank e.mark ≡ 3) (λ _. refl)) deadline_alone release_alone in
       distinct_append (λ e. mark_rank e.mark ≡ 0) (λ e. 1 ≤ mark_rank e.mark) (λ e f p q. other_mark e f (λ s. omega (arith, p, q, s))) (finish_events j finish)
-          (deadline_events j job finish until ++ release_events j job until)
+      (deadline_events j job finish until ++ release_events j job until)
       (finish_all (λ e. mark_rank e.mark ≡ 0) (λ n e. refl))
       (All-append (λ e. 1 ≤ mark_rank e.mark) (deadline_events j job finish until) (release_events j job until)
       (deadline_all (λ e. 1 ≤ mark_rank e.mark) (λ _. (deadline_rank job finish).0)) (release_all (λ e. 1 ≤ mark_rank e.mark) (λ _. omega arith)))
@@ -192,14 +192,14 @@ module _ (policy : Policy) (jobs : List Job) (until j : ℕ) (finish : Option �
         | inl (e, m) ↦ absurd (h.1 m)
         | inr (e, m) ↦ subst (λ t. Contains (job_events j (job_at jobs j) finish until) (record { time = t; mark = Deadline; job = j })) (sym h.0)
             (subst (λ x. Contains (job_events j (job_at jobs j) finish until) (record { time = (job_at jobs j).deadline; mark = x; job = j })) e
-                (has_deadline j (job_at jobs j) finish until (omega (arith, h.0))))
+            (has_deadline j (job_at jobs j) finish until (omega (arith, h.0))))
       ]
   job_has Miss time by h =
       elim (met_or_missed (omega (arith, h.0))) [
         | inr (e, m) ↦ absurd (m h.1)
         | inl (e, m) ↦ subst (λ t. Contains (job_events j (job_at jobs j) finish until) (record { time = t; mark = Miss; job = j })) (sym h.0)
             (subst (λ x. Contains (job_events j (job_at jobs j) finish until) (record { time = (job_at jobs j).deadline; mark = x; job = j })) e
-                (has_deadline j (job_at jobs j) finish until (omega (arith, h.0))))
+            (has_deadline j (job_at jobs j) finish until (omega (arith, h.0))))
       ]
 
 -- The events of the first n jobs, each once.

@@ -109,7 +109,7 @@ module _ (tasks : List Task) (releases : List Release) where
       let behind = written (timeline_lines tasks releases (drop (i + 1) spans) rest) in
       let bytes : written (timeline_lines tasks releases (drop i spans) events) ≡ before ++ (line ++ behind)
       = ap written lines ∙ flat_map-append written_line (event_lines tasks releases (events_until s.start events))
-          (span_line tasks releases s ∷ timeline_lines tasks releases (drop (i + 1) spans) rest) in
+      (span_line tasks releases s ∷ timeline_lines tasks releases (drop (i + 1) spans) rest) in
       line_more text' text'' total behind line q (line_more text text' total (line ++ behind) before p (subst (λ xs. text ++ xs ≡ total) bytes whole))
 
   -- no span is left

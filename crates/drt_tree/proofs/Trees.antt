@@ -352,7 +352,7 @@ built_two f a b g low count half rest l r sum le ge ga ba gb bb p =
     let right2 : Stands g bb.shape (low + parts ba.shape) (length a.nodes) = subst (λ (z : ℕ). Stands g bb.shape z (length a.nodes)) second right in
     let right3 : Stands g bb.shape (low + parts ba.shape) (length f.nodes + pairs ba.shape) = subst (λ (z : ℕ). Stands g bb.shape (low + parts ba.shape) z) first right2 in
     let rr : r ≡ root_of bb.shape (low + parts ba.shape) (length f.nodes + pairs ba.shape) = bb.root_is
-        ∙ (ap (λ z. root_of bb.shape z (length a.nodes)) second ∙ ap (λ z. root_of bb.shape (low + parts ba.shape) z) first) in
+    ∙ (ap (λ z. root_of bb.shape z (length a.nodes)) second ∙ ap (λ z. root_of bb.shape (low + parts ba.shape) z) first) in
     let left1 : Stands b ba.shape low (length f.nodes) = stands_on a b ba.shape low (length f.nodes) gb ba.stands in
     let right1 : Stands b bb.shape (low + parts ba.shape) (length a.nodes) = subst (λ (z : ℕ). Stands b bb.shape z (length a.nodes)) second bb.stands in
     let rr1 : r ≡ root_of bb.shape (low + parts ba.shape) (length a.nodes) = bb.root_is ∙ ap (λ z. root_of bb.shape z (length a.nodes)) second in
@@ -360,7 +360,7 @@ built_two f a b g low count half rest l r sum le ge ga ba gb bb p =
     (subst (λ (z : ℕ). IsUnder b leaf z) ba.root_is under) (subst (λ (z : ℕ). IsUnder b leaf z) rr1 other) in
     let kids : children g (length b.nodes) ≡ Some (l, r) = ap node_children (new_node b g count l r p) in
     let kids2 : children g (length f.nodes + pairs ba.shape + pairs bb.shape) ≡ Some
-        (root_of ba.shape low (length f.nodes), root_of bb.shape (low + parts ba.shape) (length f.nodes + pairs ba.shape)) =
+    (root_of ba.shape low (length f.nodes), root_of bb.shape (low + parts ba.shape) (length f.nodes + pairs ba.shape)) =
     ap (λ z. children g z) (sym root) ∙ (kids ∙ (ap (λ z. Some (z, r)) ba.root_is ∙ ap (λ z. Some (root_of ba.shape low (length f.nodes), z)) rr)) in
     record {
       forest = paired_forest b g count l r bb.forest p (omega arith) rw (omega arith) apart;
@@ -443,7 +443,7 @@ long_leaves xs ys ls e =
 pub with_forest : (f : Plain) (ls : List Leaf) → IsForest f → HaveOneBound f.pool ls → IsForest (with_leaves f ls)
 with_forest f ls k h =
     let all : All (λ (xs : List ℕ). length xs ≡ h.0) (f.pool ++ map leaf_steps ls) = All-append (λ (xs : List ℕ). length xs ≡ h.0) f.pool (map leaf_steps ls) h.1
-        (All-map (λ (xs : List ℕ). length xs ≡ h.0) leaf_steps ls h.2) in
+    (All-map (λ (xs : List ℕ). length xs ≡ h.0) leaf_steps ls h.2) in
     record {
       same = long_leaves f.nodes f.pool ls k.same;
       pairs = λ n l r e. with_pair f ls k n l r (ltb n (length f.nodes)) refl e;

@@ -143,7 +143,7 @@ pub first_split_is_eager : IsEagerProof tasks trees (z_proof (Split 0 ∷ Pass 5
 unfolding by_priority placed
 first_split_is_eager t at =
     subst (λ (u : Task). AreEagerItems graphs trees (digraph_of u) 0 (Split 0 ∷ Pass 5 ∷ Pass 4 ∷ []) (Some (opening_stack trees (higher_count tasks u.priority))))
-        (same_Some low t at) first_split_is_due
+    (same_Some low t at) first_split_is_due
 
 pub last_split_is_not_eager : ¬ IsEagerProof tasks trees (z_proof last_first)
 unfolding by_priority placed

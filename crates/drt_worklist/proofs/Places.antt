@@ -94,7 +94,7 @@ module _ {A : Type 0} (p : A → Bool) where
   fewer_from i zero (z ∷ xs) x y at e f =
       ap (λ b. length (cond b (i ∷ places_from (suc i) p xs) (places_from (suc i) p xs)) + 1) f
       ∙ sym (ap (λ b. length (cond b (i ∷ places_from (suc i) p xs) (places_from (suc i) p xs))) (ap p (same_Some z x at) ∙ e)
-          ∙ (let g : suc (length (places_from (suc i) p xs)) ≡ length (places_from (suc i) p xs) + 1 = omega arith in g))
+      ∙ (let g : suc (length (places_from (suc i) p xs)) ≡ length (places_from (suc i) p xs) + 1 = omega arith in g))
   fewer_from i (suc n) (z ∷ xs) x y at e f = fewer_by (p z) i (places_from (suc i) p (set xs n y)) (places_from (suc i) p xs) (fewer_from (suc i) n xs x y at e f)
 
   pub places_fewer : (xs : List A) (n : ℕ) (x y : A) → slice_get xs n ≡ Some x → p x ≡ true → p y ≡ false → length (places p (set xs n y)) + 1 ≡ length (places p xs)
@@ -154,15 +154,23 @@ pub record IsPlaceOf {A : Type 0} (i : ℕ) (p : A → Bool) (xs : List A) (m : 
 
 module _ {A : Type 0} (p : A → Bool) where
   placed_head : (i : ℕ) (x : A) (xs : List A) (b : Bool) → p x ≡ b → b ≡ true → Placed i p (x ∷ xs) 0
-  placed_head i x xs b e t = record { place = 0; at = ap (λ c. slice_get (cond c (i ∷ places_from (suc i) p xs) (places_from (suc i) p xs)) 0) (e ∙ t)
-      ∙ ap (λ n. Some n) (let g : i ≡ i + 0 = omega arith in g) }
+  placed_head i x xs b e t = record {
+    place = 0;
+    at = ap (λ c. slice_get (cond c (i ∷ places_from (suc i) p xs) (places_from (suc i) p xs)) 0) (e ∙ t)
+        ∙ ap (λ n. Some n) (let g : i ≡ i + 0 = omega arith in g);
+  }
 
   placed_next : (i k : ℕ) (x : A) (xs : List A) (b : Bool) → p x ≡ b → Placed (suc i) p xs k → Placed i p (x ∷ xs) (suc k)
-  placed_next i k x xs true e h = record
-      { place = suc h.place; at = ap (λ c. slice_get (cond c (i ∷ places_from (suc i) p xs) (places_from (suc i) p xs)) (suc h.place)) e
-      ∙ (h.at ∙ ap (λ n. Some n) (let g : suc i + k ≡ i + suc k = omega arith in g)) }
-  placed_next i k x xs false e h = record { place = h.place; at = ap (λ c. slice_get (cond c (i ∷ places_from (suc i) p xs) (places_from (suc i) p xs)) h.place) e
-      ∙ (h.at ∙ ap (λ n. Some n) (let g : suc i + k ≡ i + suc k = omega arith in g)) }
+  placed_next i k x xs true e h = record {
+    place = suc h.place;
+    at = ap (λ c. slice_get (cond c (i ∷ places_from (suc i) p xs) (places_from (suc i) p xs)) (suc h.place)) e
+        ∙ (h.at ∙ ap (λ n. Some n) (let g : suc i + k ≡ i + suc k = omega arith in g));
+  }
+  placed_next i k x xs false e h = record {
+    place = h.place;
+    at = ap (λ c. slice_get (cond c (i ∷ places_from (suc i) p xs) (places_from (suc i) p xs)) h.place) e
+        ∙ (h.at ∙ ap (λ n. Some n) (let g : suc i + k ≡ i + suc k = omega arith in g));
+  }
 
   pub placed : (i : ℕ) (xs : List A) (k : ℕ) (x : A) → slice_get xs k ≡ Some x → p x ≡ true → Placed i p xs k
   placed i [] k x at e = absurd (none-some x at)

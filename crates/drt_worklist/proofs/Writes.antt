@@ -14,7 +14,7 @@ set_at (z ∷ xs) zero y (suc k) x at = inr ((λ e. absurd (omega arith)), at)
 set_at (z ∷ xs) (suc i) y zero x at = inr ((λ e. absurd (omega arith)), at)
 set_at (z ∷ xs) (suc i) y (suc k) x at =
     elim (set_at xs i y k x at) as (λ _. ((suc k ≡ suc i) × (x ≡ y)) ⊎ ((suc k ≡ suc i → ⊥) × (slice_get xs k ≡ Some x)))
-        [ inl p ↦ inl (ap suc p.0, p.1) | inr q ↦ inr ((λ e. q.0 (omega arith)), q.1) ]
+    [ inl p ↦ inl (ap suc p.0, p.1) | inr q ↦ inr ((λ e. q.0 (omega arith)), q.1) ]
 
 pub set_here : {A : Type 0} (xs : List A) (i : ℕ) (y : A) → i < length xs → slice_get (set xs i y) i ≡ Some y
 set_here [] i y lt = absurd (let h : i < 0 = lt in omega arith)

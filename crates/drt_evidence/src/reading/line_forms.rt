@@ -8,9 +8,7 @@ ghost use Rattle.drt_evidence.specs.LineForms.{IsNoLine, kind_line, pair_form, p
 ghost use Rattle.drt_claims.specs.Ranges.{IsInRangeEntry, IsInRangeMiss, IsInRangePair, IsInRangeRelease, IsNumber, IsTick};
 ghost use Rattle.drt_evidence.specs.Text.{count_line, entry_line, miss_line, pair_line, release_line, word_line};
 
-use crate::reading::fields::{
-    behind_word, cut_field, index_of, number_of,
-};
+use crate::reading::fields::{behind_word, cut_field, index_of, number_of};
 use drt_claims::{MOST_NUMBER, MOST_PART, MOST_TICKS, MOST_WORK, Pair};
 use drt_graph::FrontEntry;
 use drt_model::{Miss, Policy, Release};

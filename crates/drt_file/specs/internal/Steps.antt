@@ -69,9 +69,14 @@ with_vertex v d = record { name = d.name; line = d.line; priority = d.priority; 
 
 -- The task with one edge more, whose ends are the places of these names.
 unfoldable pub with_edge : List ℕ → List ℕ → ℕ → Draft → Draft
-with_edge from to sep d = record
-    { name = d.name; line = d.line; priority = d.priority; vertices = d.vertices; edges = d.edges ++ record
-    { from = narrow (place_of_name from d.vertices); to = narrow (place_of_name to d.vertices); sep = sep } ∷ [] }
+with_edge from to sep d = record {
+  name = d.name;
+  line = d.line;
+  priority = d.priority;
+  vertices = d.vertices;
+  edges = d.edges ++ record
+      { from = narrow (place_of_name from d.vertices); to = narrow (place_of_name to d.vertices); sep = sep } ∷ [];
+}
 
 -- The task with this priority.
 unfoldable pub with_priority : ℕ → Draft → Draft

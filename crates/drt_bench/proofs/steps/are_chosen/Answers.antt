@@ -13,7 +13,7 @@ loop-k-preserved c =
     let at : slice_get c.args.chosen.now i ≡ Some k = slice_get-get_or c.args.chosen.now i 0 c.loop-k-test.true in
     let within : k < length c.args.pool.now = omega (arith, c.if-k-pool.false) in
     let e : slice_index_or c.args.pool.now k [] ≡ c.index-pool-k.result = get_or_from_slice_get c.args.pool.now k c.index-pool-k.result []
-        (slice_get_read c.args.pool.now (length c.args.pool.now) k c.index-pool-k.result refl within c.index-pool-k.is) in
+    (slice_get_read c.args.pool.now (length c.args.pool.now) k c.index-pool-k.result refl within c.index-pool-k.is) in
     let l : length (slice_index_or c.args.pool.now k []) ≡ length c.index-pool-k.result = ap length e in
     let b : c.bound.result ≡ length c.index-pool-k.result = c.bound.ensures.value in
     chosen_more c.args.deadline c.args.pool.now c.args.chosen.now i k c.loop-k.invariant at (record { within = within; long = omega (arith, c.if-bound-deadline.false) })

@@ -12,11 +12,13 @@ is_closed-requires-clause-order c =
 pub returns-then-not-is_closed : goal.returns-then-not-is_closed
 returns-then-not-is_closed c =
     let l : c.loop-i.i < length c.args.graphs.now = omega (arith, c.loop-i-test.true, c.count-i-end.ensures.count) in
-    let at = row_at c.args.fronts.now c.loop-i.i c.as_slice.result.now c.index-fronts-i.result c.as_slice.ensures c.index-fronts-i.is in
-    (λ e. absurd (cc), λ each.
-        (let r : c.is_closed.result ≡ true = c.is_closed.ensures.1
-        (each_here (IsClosedFront c.args.bound) c.args.graphs.now c.args.fronts.now c.loop-i.i c.graph.result.now c.as_slice.result.now c.requires.order.0 l
-        c.graph.ensures.graph at each) in absurd (cc)))
+    let at = row_at c.args.fronts.now c.loop-i.i c.as_slice.result.now c.index-fronts-i.result c.as_slice.ensures c.index-fronts-i.is in (
+      λ e. absurd (cc),
+      λ each.
+          (let r : c.is_closed.result ≡ true = c.is_closed.ensures.1
+          (each_here (IsClosedFront c.args.bound) c.args.graphs.now c.args.fronts.now c.loop-i.i c.graph.result.now c.as_slice.result.now c.requires.order.0 l
+          c.graph.ensures.graph at each) in absurd (cc)),
+    )
 
 pub loop-i-preserved : goal.loop-i-preserved
 loop-i-preserved c =
@@ -25,8 +27,11 @@ loop-i-preserved c =
     let at = row_at c.args.fronts.now c.loop-i.i c.as_slice.result.now c.index-fronts-i.result c.as_slice.ensures c.index-fronts-i.is in
     let r : c.is_closed.result ≡ true = cc in
     here_more (IsClosedFront c.args.bound) c.args.graphs.now c.args.fronts.now c.loop-i.i c.graph.result.now c.as_slice.result.now m c.graph.ensures.graph at
-        (c.is_closed.ensures.0 r) c.loop-i.invariant
+    (c.is_closed.ensures.0 r) c.loop-i.invariant
 
 pub returns : goal.returns
-returns c = (λ e. each_from (IsClosedFront c.args.bound) c.args.graphs.now c.args.fronts.now c.requires.order.0
-    (λ k d l. c.loop-i.invariant k d (omega (arith, c.loop-i-test.false, c.count-i-end.ensures.count, l))), λ each. refl)
+returns c = (
+  λ e. each_from (IsClosedFront c.args.bound) c.args.graphs.now c.args.fronts.now c.requires.order.0
+      (λ k d l. c.loop-i.invariant k d (omega (arith, c.loop-i-test.false, c.count-i-end.ensures.count, l))),
+  λ each. refl,
+)

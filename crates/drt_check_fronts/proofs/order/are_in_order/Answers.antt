@@ -7,10 +7,12 @@ pub returns-then-not-is_ordered : goal.returns-then-not-is_ordered
 returns-then-not-is_ordered c =
     let e0 : length c.args.fronts.now ≡ length c.args.graphs.now = omega (arith, c.if-fronts-count.false, c.count.ensures.count) in
     let l : c.loop-i.i < length c.args.graphs.now = omega (arith, c.loop-i-test.true, c.count-i-end.ensures.count) in
-    let at = row_at c.args.fronts.now c.loop-i.i c.as_slice.result.now c.index-fronts-i.result c.as_slice.ensures c.index-fronts-i.is in
-    (λ e. absurd (cc), λ each.
-        (let r : c.is_ordered.result ≡ true = c.is_ordered.ensures.1
-        (each_here (IsOrdered c.args.bound) c.args.graphs.now c.args.fronts.now c.loop-i.i c.graph.result.now c.as_slice.result.now e0 l c.graph.ensures.graph at each.1) in absurd (cc)))
+    let at = row_at c.args.fronts.now c.loop-i.i c.as_slice.result.now c.index-fronts-i.result c.as_slice.ensures c.index-fronts-i.is in (
+      λ e. absurd (cc),
+      λ each.
+          (let r : c.is_ordered.result ≡ true = c.is_ordered.ensures.1
+          (each_here (IsOrdered c.args.bound) c.args.graphs.now c.args.fronts.now c.loop-i.i c.graph.result.now c.as_slice.result.now e0 l c.graph.ensures.graph at each.1) in absurd (cc)),
+    )
 
 pub loop-i-preserved : goal.loop-i-preserved
 loop-i-preserved c =
@@ -23,6 +25,11 @@ loop-i-preserved c =
 
 pub returns : goal.returns
 returns c =
-    let e0 : length c.args.fronts.now ≡ length c.args.graphs.now = omega (arith, c.if-fronts-count.false, c.count.ensures.count) in
-    (λ e. (e0, each_from (IsOrdered c.args.bound) c.args.graphs.now c.args.fronts.now e0
-        (λ k d l. c.loop-i.invariant k d (omega (arith, c.loop-i-test.false, c.count-i-end.ensures.count, l)))), λ each. refl)
+    let e0 : length c.args.fronts.now ≡ length c.args.graphs.now = omega (arith, c.if-fronts-count.false, c.count.ensures.count) in (
+      λ e. (
+        e0,
+        each_from (IsOrdered c.args.bound) c.args.graphs.now c.args.fronts.now e0
+            (λ k d l. c.loop-i.invariant k d (omega (arith, c.loop-i-test.false, c.count-i-end.ensures.count, l))),
+      ),
+      λ each. refl,
+    )

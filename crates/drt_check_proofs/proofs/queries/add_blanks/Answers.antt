@@ -15,4 +15,4 @@ pub returns : goal.returns
 returns c =
     let items = c.args.items.now in
     added_all c.items.queries.items (map blank (passing_times (drop c.items.item-index items))) (c.args.queries.now.items ++ map blank (passing_times items))
-        (times_ended blank items c.items.item-index c.items-test.false) c.items.invariant
+    (times_ended blank items c.items.item-index c.items-test.false) c.items.invariant

@@ -19,7 +19,7 @@ returns-then-i-higher_count c =
     let t = c.index-tasks-proof.result in
     let tree = c.args.tree.now in
     let at : slice_get c.args.tasks.now c.args.proof.now.task ≡ Some t = slice_get_read c.args.tasks.now (length c.args.tasks.now) c.args.proof.now.task t refl
-        c.if-proof-tasks.false c.index-tasks-proof.is in
+    c.if-proof-tasks.false c.index-tasks-proof.is in
     let l : c.args.i < higher_count c.args.tasks.now t.priority = rw c.higher_count.ensures at c.if-i-higher_count.true in
     let e = ap (λ (items : List Item). passes_at tree c.args.i items (Some (root tree ∷ []))) c.as_slice.ensures ∙ queries_above c.args.tasks.now tree c.args.i c.args.proof.now t at l in
     subst (λ (qs : List Query). IfOk c.add_passes.result (λ u. c.add_passes.new.queries.items ≡ c.args.queries.now.items ++ qs)) e c.add_passes.ensures
@@ -29,7 +29,7 @@ returns-else-i-higher_count c =
     let t = c.index-tasks-proof.result in
     let tree = c.args.tree.now in
     let at : slice_get c.args.tasks.now c.args.proof.now.task ≡ Some t = slice_get_read c.args.tasks.now (length c.args.tasks.now) c.args.proof.now.task t refl
-        c.if-proof-tasks.false c.index-tasks-proof.is in
+    c.if-proof-tasks.false c.index-tasks-proof.is in
     let l : higher_count c.args.tasks.now t.priority ≤ c.args.i = rw c.higher_count.ensures at c.if-i-higher_count.false in
     let e = ap (λ (items : List Item). map blank (passing_times items)) c.as_slice-else-i-higher_count.ensures ∙ queries_past c.args.tasks.now tree c.args.i c.args.proof.now t at l in
     subst (λ (qs : List Query). IfOk c.add_blanks.result (λ u. c.add_blanks.new.queries.items ≡ c.args.queries.now.items ++ qs)) e c.add_blanks.ensures

@@ -14,7 +14,7 @@ returns-then-not-branch-clause-timely c =
       λ e. absurd (false≢true e),
       λ all. absurd (left_fails IsTimely (AllByRecursion IsTimely (marks tasks proofs)) (marks tasks (drop k proofs)) (marks_of tasks c.proof-item.result) (marks tasks (drop (k + 1) proofs))
           (flat_turned (marks_of tasks) proofs k c.proof-item.result c.proofs-test.true c.proof-item.is)
-              (λ is. both_ways c.in_ok-add_proof.field-0 c.if-not-branch.true (c.in_ok-add_proof.ensures.timely.1 is))
+          (λ is. both_ways c.in_ok-add_proof.field-0 c.if-not-branch.true (c.in_ok-add_proof.ensures.timely.1 is))
           c.proofs.invariant.0 all),
     )
 

@@ -10,4 +10,4 @@ abbrev pub invariant-items : goal.invariant-items
 invariant-items l =
     (AllByRecursion IsTimely (map (make_mark l.wcet l.deadline) (passing_times l.items)) ↔ AllByRecursion IsTimely (map (make_mark l.wcet l.deadline) (passing_times (drop l.item-index l.items))))
     × (l.rooms.items ++ map room (map (make_mark l.wcet l.deadline) (passing_times (drop l.item-index l.items))) ≡ l.initial.rooms.items ++ map room
-        (map (make_mark l.wcet l.deadline) (passing_times l.items)))
+    (map (make_mark l.wcet l.deadline) (passing_times l.items)))

@@ -14,7 +14,7 @@ returns-then-not-branch c =
 pub items-preserved : goal.items-preserved
 items-preserved c =
     let some : after_at c.args.tree.now c.args.i (item_at c.args.items.now c.items.item-index) (reverse c.items.nodes.items) ≡ Some (reverse c.take.new.nodes.items) = rw
-        c.if-not-branch.false at c.in_ok-take.ensures in
+    c.if-not-branch.false at c.in_ok-take.ensures in
     c.items.invariant ∙ nodes_turned c.args.tree.now c.args.i c.args.items.now c.items.item-index (reverse c.items.nodes.items) (Some (reverse c.take.new.nodes.items)) c.items-test.true some
 
 pub returns : goal.returns

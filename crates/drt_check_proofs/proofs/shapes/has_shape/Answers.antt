@@ -10,7 +10,7 @@ pub returns-in_ok-can_take_below : goal.returns-in_ok-can_take_below
 returns-in_ok-can_take_below c =
     let t = c.index-tasks-proof.result in
     let at : slice_get c.args.tasks.now c.args.proof.now.task ≡ Some t = slice_get_read c.args.tasks.now (length c.args.tasks.now) c.args.proof.now.task t refl
-        c.if-proof-tasks.false c.index-tasks-proof.is in
+    c.if-proof-tasks.false c.index-tasks-proof.is in
     let width : c.min-width.result ≡ min (higher_count c.args.tasks.now t.priority) (length c.args.trees.now) = cc in
     let decides = has_shape_decides c.args.tasks.now c.args.trees.now c.args.proof.now t c.min-width.result at width in
     let closed = rw c.as_slice-items.ensures at (c.is_closed.ensures.0 c.if-is_closed.true) in
@@ -21,7 +21,7 @@ pub returns-else-is_closed : goal.returns-else-is_closed
 returns-else-is_closed c =
     let t = c.index-tasks-proof.result in
     let at : slice_get c.args.tasks.now c.args.proof.now.task ≡ Some t = slice_get_read c.args.tasks.now (length c.args.tasks.now) c.args.proof.now.task t refl
-        c.if-proof-tasks.false c.index-tasks-proof.is in
+    c.if-proof-tasks.false c.index-tasks-proof.is in
     let width : c.min-width.result ≡ min (higher_count c.args.tasks.now t.priority) (length c.args.trees.now) = cc in
     let decides = has_shape_decides c.args.tasks.now c.args.trees.now c.args.proof.now t c.min-width.result at width in
     let closed = rw c.as_slice-items.ensures at c.is_closed.ensures in

@@ -27,7 +27,7 @@ begins-requires c =
     let at = c.first_from-at.result in
     subst (λ (xs : List StateEntry). IsEntryCut c.args.place xs (record { at = at; rest = at })) c.as_slice-entries.ensures
     (cut_in c.args.place es at c.first_from-at.ensures.within c.first_from-at.ensures.before
-        (greater_at es at c.args.place c.stands_at.result c.stands_at.ensures.1 c.if-stands_at.false c.first_from-at.ensures.after))
+    (greater_at es at c.args.place c.stands_at.result c.stands_at.ensures.1 c.if-stands_at.false c.first_from-at.ensures.after))
 
 pub returns-then-stands_at : goal.returns-then-stands_at
 returns-then-stands_at c =
@@ -49,7 +49,7 @@ returns-else-stands_at c =
     let e : entry_at c.args.state.now.entries c.args.place ≡ None
     = subst (λ (xs : List StateEntry). entry_at xs c.args.place ≡ None) c.as_slice-entries.ensures
     (entry_absent c.args.place es at order c.first_from-at.ensures.before
-        (greater_at es at c.args.place c.stands_at.result c.stands_at.ensures.1 c.if-stands_at.false c.first_from-at.ensures.after)) in (
+    (greater_at es at c.args.place c.stands_at.result c.stands_at.ensures.1 c.if-stands_at.false c.first_from-at.ensures.after)) in (
       λ t. from_absent c.args.graph.now c.args.deadline c.args.states.now c.args.state.now c.args.place c.args.numbers.now e (c.begins.ensures.0 t),
       λ all. c.begins.ensures.1 (to_absent c.args.graph.now c.args.deadline c.args.states.now c.args.state.now c.args.place c.args.numbers.now e all),
     )

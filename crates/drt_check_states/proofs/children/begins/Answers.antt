@@ -22,7 +22,7 @@ returns-then-not-names_above c = (
       let n = get_or c.args.numbers.now c.loop-v.v 0 in
       let e = child_plain c.args.state.now (record { place = c.args.place; vertex = c.loop-v.v; offset = 0 }) in
       let here = zip_first (NamesAbove c.args.states.now) (λ (v : ℕ). child_at c.args.state.now c.args.place v 0 c.args.state.now.work) (vertex_count c.args.graph.now)
-          c.args.numbers.now c.loop-v.v all
+      c.args.numbers.now c.loop-v.v all
       (omega (arith, c.loop-v-test.true, c.vertex_count-count.ensures.count)) in
       let t = c.names_above.ensures.1 (subst (λ (k : Child). NamesAbove c.args.states.now k n) (sym e) here) in
       absurd (cc),

@@ -41,11 +41,11 @@ returns c =
       λ e.
           let tail : AllZip IsEntryAbove (drop (cut.at + 1) own) (drop cut.rest other)
           = subst (λ (xs : List StateEntry). AllZip IsEntryAbove xs (drop cut.rest other)) r
-              (subst (λ (ys : List StateEntry). AllZip IsEntryAbove (take (length own - (cut.at + 1)) (drop (cut.at + 1) own)) ys) s (c.are_above-2.ensures.0 e)) in
+          (subst (λ (ys : List StateEntry). AllZip IsEntryAbove (take (length own - (cut.at + 1)) (drop (cut.at + 1) own)) ys) s (c.are_above-2.ensures.0 e)) in
           above_join own other cut c.args.entry c.requires no_entry l (c.are_above.ensures.0 c.if-not-are_above.false) (c.is_entry_above.ensures.0 c.if-not-is_entry_above.false) tail,
       λ all.
           let parts = above_parts own other cut c.args.entry c.requires no_entry l all in
           c.are_above-2.ensures.1
-              (subst (λ (ys : List StateEntry). AllZip IsEntryAbove (take (length own - (cut.at + 1)) (drop (cut.at + 1) own)) ys) (sym s)
-              (subst (λ (xs : List StateEntry). AllZip IsEntryAbove xs (drop cut.rest other)) (sym r) parts.2)),
+          (subst (λ (ys : List StateEntry). AllZip IsEntryAbove (take (length own - (cut.at + 1)) (drop (cut.at + 1) own)) ys) (sym s)
+          (subst (λ (xs : List StateEntry). AllZip IsEntryAbove xs (drop cut.rest other)) (sym r) parts.2)),
     )

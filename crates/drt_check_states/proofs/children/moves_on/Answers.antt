@@ -14,7 +14,7 @@ loop-k-preserved-then-not-is_near c =
     let t : nat_lt (c.args.from.offset + x.sep) c.args.deadline ≡ false
     = le-ltb (c.args.from.offset + x.sep) c.args.deadline (far (c.args.from.offset + x.sep) c.args.deadline c.is_near.result c.is_near.ensures.1 c.if-not-is_near.true) in
     along_skip (NamesAbove c.args.states.now) (child_by c.args.graph.now c.args.state.now c.args.from) (near_by c.args.deadline c.args.from)
-        (out_edges c.args.graph.now c.args.from.vertex) c.args.numbers.now
+    (out_edges c.args.graph.now c.args.from.vertex) c.args.numbers.now
     c.loop-k.k c.loop-k.next no_edge x (omega (arith, c.loop-k-test.true, c.out_degree-k-end.ensures)) c.out_edge-edge.ensures t c.loop-k.invariant
 
 pub returns-then-next-numbers : goal.returns-then-next-numbers
@@ -39,13 +39,13 @@ returns-then-not-names_above c = (
       let fails : NamesAbove c.args.states.now (child_by c.args.graph.now c.args.state.now c.args.from x) n → ⊥
       = (λ names.
       let own = subst (λ (v : Vertex). NamesAbove c.args.states.now
-          (child_at c.args.state.now c.args.from.place x.to (c.args.from.offset + x.sep) (c.args.state.now.work + v.wcet)) n) (sym c.vertex.ensures)
+      (child_at c.args.state.now c.args.from.place x.to (c.args.from.offset + x.sep) (c.args.state.now.work + v.wcet)) n) (sym c.vertex.ensures)
       names in
       let t2 : c.names_above.result ≡ true = c.names_above.ensures.1 own in cc) in
       absurd (
       along_not (NamesAbove c.args.states.now) (child_by c.args.graph.now c.args.state.now c.args.from) (near_by c.args.deadline c.args.from) (out_edges c.args.graph.now c.args.from.vertex)
       c.args.numbers.now c.loop-k.k c.loop-k.next no_edge x (omega (arith, c.loop-k-test.true, c.out_degree-k-end.ensures)) c.out_edge-edge.ensures t
-          c.if-next-numbers.false fails c.loop-k.invariant fit
+      c.if-next-numbers.false fails c.loop-k.invariant fit
       ),
 )
 
@@ -58,14 +58,14 @@ loop-k-preserved c =
     = subst (λ (v : Vertex). NamesAbove c.args.states.now (child_at c.args.state.now c.args.from.place x.to (c.args.from.offset + x.sep) (c.args.state.now.work + v.wcet)) n) c.vertex.ensures
     (c.names_above.ensures.0 c.if-not-names_above.false) in
     along_take (NamesAbove c.args.states.now) (child_by c.args.graph.now c.args.state.now c.args.from) (near_by c.args.deadline c.args.from)
-        (out_edges c.args.graph.now c.args.from.vertex) c.args.numbers.now
+    (out_edges c.args.graph.now c.args.from.vertex) c.args.numbers.now
     c.loop-k.k c.loop-k.next no_edge x (omega (arith, c.loop-k-test.true, c.out_degree-k-end.ensures)) c.out_edge-edge.ensures t c.if-next-numbers.false here c.loop-k.invariant
 
 pub returns : goal.returns
 returns c = (
   λ e.
       along_end (NamesAbove c.args.states.now) (child_by c.args.graph.now c.args.state.now c.args.from) (near_by c.args.deadline c.args.from)
-          (out_edges c.args.graph.now c.args.from.vertex) c.args.numbers.now
+      (out_edges c.args.graph.now c.args.from.vertex) c.args.numbers.now
       c.loop-k.k c.loop-k.next (omega (arith, c.loop-k-test.false, c.out_degree-k-end.ensures)) c.loop-k.invariant (eqb-true c.loop-k.next (length c.args.numbers.now) e),
   λ fit.
       let same : c.loop-k.next ≡ length c.args.numbers.now

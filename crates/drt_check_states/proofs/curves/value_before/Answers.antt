@@ -6,7 +6,7 @@ use Rattle.drt_check_states.proofs.curves.value_before.Goals as goal
 pub loop-from-preserved-then-jumps-middle : goal.loop-from-preserved-then-jumps-middle
 loop-from-preserved-then-jumps-middle c =
     cut_up c.args.jumps.now c.args.t c.loop-from.from c.loop-from.to (c.loop-from.from + (c.loop-from.to - c.loop-from.from) / 2) no_jump c.requires c.loop-from.invariant
-        (omega arith) c.if-jumps-middle.true
+    (omega arith) c.if-jumps-middle.true
 
 pub loop-from-preserved : goal.loop-from-preserved
 loop-from-preserved c =

@@ -17,7 +17,7 @@ returns-then-not-is_state c = (
 pub loop-i-preserved : goal.loop-i-preserved
 loop-i-preserved c =
     all_more (IsState (graphs_at c.args.graphs.now c.args.order.now)) c.args.states.now c.loop-i.i c.index-states-i.result c.loop-i-test.true c.index-states-i.is
-        (c.is_state.ensures.0 c.if-not-is_state.false)
+    (c.is_state.ensures.0 c.if-not-is_state.false)
     c.loop-i.invariant
 
 some : (c : goal.After-loop-i) → 0 < length c.args.states.now

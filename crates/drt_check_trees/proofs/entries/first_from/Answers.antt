@@ -8,11 +8,11 @@ use Rattle.drt_check_trees.proofs.entries.first_from.Goals as goal
 pub returns-clause-before : goal.returns-clause-before
 returns-clause-before c =
     let point = IsPartitionPoint-from_clause (λ e. nat_lt e.rank c.args.rank) _ _ c.partition_point.ensures.partitioned
-        (partitioned c.args.entries.now c.args.rank c.requires) (λ a r q k. search rules) in
+    (partitioned c.args.entries.now c.args.rank c.requires) (λ a r q k. search rules) in
     λ k d l. ltb-true _ _ (point.0 k d (omega arith) l)
 
 pub returns-clause-after : goal.returns-clause-after
 returns-clause-after c =
     let point = IsPartitionPoint-from_clause (λ e. nat_lt e.rank c.args.rank) _ _ c.partition_point.ensures.partitioned
-        (partitioned c.args.entries.now c.args.rank c.requires) (λ a r q k. search rules) in
+    (partitioned c.args.entries.now c.args.rank c.requires) (λ a r q k. search rules) in
     λ k d l m. ltb-false _ _ (point.1 k d l m)

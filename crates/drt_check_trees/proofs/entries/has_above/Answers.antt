@@ -105,5 +105,5 @@ returns c =
             | inr q ↦ q
           ] in
           absurd (c.loop-k.invariant.1 h.place h.entry past h.within (omega (arith, h.to, rank))
-              (subst (λ (x : Entry). IsWalkOver c.args.bound g c.args.walk.now (get_or c.args.walks.now x.number [])) (sym h.at) h.over)),
+          (subst (λ (x : Entry). IsWalkOver c.args.bound g c.args.walk.now (get_or c.args.walks.now x.number [])) (sym h.at) h.over)),
     )

@@ -7,7 +7,7 @@ pub asks_no_less-requires-clause-walk : goal.asks_no_less-requires-clause-walk
 asks_no_less-requires-clause-walk c =
     let here : IsShortWalk c.args.bound c.args.graph.now c.as_slice.result.now
     = subst (λ (w : List ℕ). IsShortWalk c.args.bound c.args.graph.now w) (sym (c.as_slice.ensures ∙ c.index-walks-entry.is))
-        (c.requires.short c.args.entry.number c.index-walks-entry.result c.requires.entry.number) in
+    (c.requires.short c.args.entry.number c.index-walks-entry.result c.requires.entry.number) in
     short_within c.args.graph.now c.keep_limits.ensures c.args.bound c.as_slice.result.now c.requires.bound here
 
 pub asks_no_less-requires-clause-other : goal.asks_no_less-requires-clause-other

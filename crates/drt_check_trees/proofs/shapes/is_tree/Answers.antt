@@ -34,7 +34,7 @@ returns c =
     let same : length c.name_all.new.marks ≡ length c.as_mut_slice-slots.result.now = c.name_all.auto.marks in
     let kept = c.name_all.ensures.kept c.if-not-name_all.false in
     let lower : AreLower (length tree.walks) tree.pairs = subst (λ (ps : List Pair). AreLower (length tree.walks) ps) p
-        (subst (λ (n : ℕ). AreLower n c.as_slice-pairs.result.now) (ap length w) kept.0) in
+    (subst (λ (n : ℕ). AreLower n c.as_slice-pairs.result.now) (ap length w) kept.0) in
     let counts : (n : ℕ) → n < 2 * length tree.pairs → marked c.name_all.new.marks n ≡ named tree.pairs n
     = (λ n l. kept.1 n (omega (arith, l, long)) ∙ ap (λ (ps : List Pair). named ps n) p) in (
       λ e. tree_once tree some count lower (λ n l. sym (counts n l) ∙ c.all_marked.ensures.0 e n (omega (arith, l, long, same))),

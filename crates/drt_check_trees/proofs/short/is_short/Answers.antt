@@ -4,9 +4,11 @@ use Rattle.drt_check_trees.proofs.short.is_short.Goals as goal
 
 pub returns-then-gap-bound : goal.returns-then-gap-bound
 returns-then-gap-bound c =
-    let over : c.args.bound ≤ c.loop-i.span + c.in-Some.gap = omega (arith, c.if-gap-bound.true, c.loop-i.invariant.below) in
-    (λ e. absurd (cc), λ is. absurd
-        (too_long c.args.bound c.args.graph.now c.args.walk.now c.loop-i.at c.loop-i.span c.loop-i.i c.loop-i.invariant c.loop-i-test.true c.in-Some.gap c.in-Some.ensures over is))
+    let over : c.args.bound ≤ c.loop-i.span + c.in-Some.gap = omega (arith, c.if-gap-bound.true, c.loop-i.invariant.below) in (
+      λ e. absurd (cc),
+      λ is. absurd
+          (too_long c.args.bound c.args.graph.now c.args.walk.now c.loop-i.at c.loop-i.span c.loop-i.i c.loop-i.invariant c.loop-i-test.true c.in-Some.gap c.in-Some.ensures over is),
+    )
 
 pub loop-i-preserved : goal.loop-i-preserved
 loop-i-preserved c =

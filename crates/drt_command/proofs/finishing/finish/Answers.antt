@@ -7,7 +7,7 @@ use Rattle.drt_command.proofs.finishing.finish.Goals as goal
 pub returns-clause-run : goal.returns-clause-run
 returns-clause-run g c = λ left before after is ok err.
     finished (g.C.Promised.rules c.args.command.now) c.laws.ensures left (Rose before after) (Rose (g.K.Sink.faults c.args.sink.now) (g.K.Sink.faults c.end_run.new.sink))
-        (g.K.Sink.held c.args.sink.now)
+    (g.K.Sink.held c.args.sink.now)
     (g.K.Sink.held c.end_run.new.sink) c.args.bytes.now c.args.made c.end_run.result c.end_run.ensures.ended is ok err
 
 pub returns-clause-unwritten : goal.returns-clause-unwritten

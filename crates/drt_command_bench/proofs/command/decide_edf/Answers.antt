@@ -10,25 +10,25 @@ use Rattle.drt_command_bench.proofs.command.decide_edf.Goals as goal
 pub returns-in-Done-EdfYes-clause-says : goal.returns-in-Done-EdfYes-clause-says
 returns-in-Done-EdfYes-clause-says g c =
     let answer : IsEdfAnswer c.args.set.now.tasks c.args.crew.now.effort.budget (Done (EdfYes c.in-Done-EdfYes.field-0-0 c.in-Done-EdfYes.fronts)) = rw
-        (c.in-Done-EdfYes.is, c.in-Done-EdfYes.field-0-is) at c.in_ok-fronts.ensures in
+    (c.in-Done-EdfYes.is, c.in-Done-EdfYes.field-0-is) at c.in_ok-fronts.ensures in
     yes_says c.args.set.now.tasks c.requires.limits _ _ answer.0 answer.1
 
 pub returns-in-Done-EdfYes-clause-counts : goal.returns-in-Done-EdfYes-clause-counts
 returns-in-Done-EdfYes-clause-counts g c =
     let answer : IsEdfAnswer c.args.set.now.tasks c.args.crew.now.effort.budget (Done (EdfYes c.in-Done-EdfYes.field-0-0 c.in-Done-EdfYes.fronts)) = rw
-        (c.in-Done-EdfYes.is, c.in-Done-EdfYes.field-0-is) at c.in_ok-fronts.ensures in
+    (c.in-Done-EdfYes.is, c.in-Done-EdfYes.field-0-is) at c.in_ok-fronts.ensures in
     λ e. rw (c.in_ok-count_labels-in-Done-EdfYes.ensures, c.as_slice.ensures) (yes_counts c.args.set.now.tasks _ _ answer.0)
 
 pub returns-in-Done-EdfNo-clause-says : goal.returns-in-Done-EdfNo-clause-says
 returns-in-Done-EdfNo-clause-says g c =
     let answer : IsEdfAnswer c.args.set.now.tasks c.args.crew.now.effort.budget (Done (EdfNo c.in-Done-EdfNo.field-0-0 c.in-Done-EdfNo.field-0-1)) = rw
-        (c.in-Done-EdfNo.is, c.in-Done-EdfNo.field-0-is) at c.in_ok-fronts.ensures in
+    (c.in-Done-EdfNo.is, c.in-Done-EdfNo.field-0-is) at c.in_ok-fronts.ensures in
     rw c.without_fronts.ensures (no_says c.args.set.now.tasks c.requires.limits _ _ answer.0 answer.1)
 
 pub returns-in-Done-UtilisationOne-clause-says : goal.returns-in-Done-UtilisationOne-clause-says
 returns-in-Done-UtilisationOne-clause-says g c =
     let answer : IsEdfAnswer c.args.set.now.tasks c.args.crew.now.effort.budget (Done (UtilisationOne c.in-Done-UtilisationOne.field-0-0)) = rw
-        (c.in-Done-UtilisationOne.is, c.in-Done-UtilisationOne.field-0-is) at c.in_ok-fronts.ensures in
+    (c.in-Done-UtilisationOne.is, c.in-Done-UtilisationOne.field-0-is) at c.in_ok-fronts.ensures in
     rw c.without_fronts-in-Done-UtilisationOne.ensures (one_says c.args.set.now.tasks c.requires.limits answer.1)
 
 pub returns-in-Beyond-TooFar-clause-says : goal.returns-in-Beyond-TooFar-clause-says

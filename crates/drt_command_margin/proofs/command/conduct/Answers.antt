@@ -16,9 +16,9 @@ returns-in-Ok-clause-run g c =
     let is = subst (λ (b : List ℕ). IsInput file_input left b) (sym c.as_slice-in-Ok.ensures) (subst (λ (i : Input). IsInput i left c.in-Ok.bytes) c.file_input.ensures c.in-Ok.ensures.is) in
     c.finish.ensures.run left (g.S.Source.faults c.args.source.now) (g.S.Source.faults c.read_input.new.source) is
     (subst (λ (b : List ℕ). IfOk c.make-made.result
-        ((margin_rules c.args.command.now.fixed c.args.command.now.task c.args.command.now.vertex c.args.command.now.effort.budget).makes b)) same c.make-made.ensures.makes)
+    ((margin_rules c.args.command.now.fixed c.args.command.now.task c.args.command.now.vertex c.args.command.now.effort.budget).makes b)) same c.make-made.ensures.makes)
     (subst (λ (b : List ℕ). IfErr c.make-made.result
-        (IsUnmadeCause (margin_rules c.args.command.now.fixed c.args.command.now.task c.args.command.now.vertex c.args.command.now.effort.budget).refuses b)) same c.make-made.ensures.unmade)
+    (IsUnmadeCause (margin_rules c.args.command.now.fixed c.args.command.now.task c.args.command.now.vertex c.args.command.now.effort.budget).refuses b)) same c.make-made.ensures.unmade)
 
 pub returns-in-Err-clause-run : goal.returns-in-Err-clause-run
 returns-in-Err-clause-run g c =

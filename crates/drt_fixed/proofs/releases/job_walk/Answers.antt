@@ -61,7 +61,7 @@ returns c =
       | then-k-at+in_ok-push w ↦ (
           let row : c.from_vec.result ≡ v ∷ [] = c.from_vec.ensures ∙ (ap (λ x. x.items) w.walk-is ∙ (w.in_ok-push.ensures.items ∙ ap (λ (xs : List ℕ). xs ++ v ∷ []) c.new-walk.ensures.items)) in
           let own : v < vertex_count (graph_at tasks k) = subst (λ g. v < vertex_count g) same
-              (subst (λ (m : ℕ). v < vertex_count (graph_of (graphs_given c.args.given) m)) (sym w.if-k-at.true) c.requires.vertex.vertex) in
+          (subst (λ (m : ℕ). v < vertex_count (graph_of (graphs_given c.args.given) m)) (sym w.if-k-at.true) c.requires.vertex.vertex) in
           subst (IsBeside tasks j v k) (sym row) (beside_own tasks j v k le sound w.if-k-at.true own)
           )
       | else-k-at w ↦ (

@@ -12,5 +12,5 @@ pub returns : goal.returns
 returns c =
     let left : to_z w128 (of_z w128 (to_z w128 c.args.gain -ℤ to_z w128 c.args.loss)) ≡ pos c.args.gain -ℤ pos c.args.loss = omega (arith, ints) in
     let right : to_z w128 (of_z w128 (to_z w128 (of_z w128 (to_z w64 (of_z w64 c.args.high))) -ℤ to_z w128 (of_z w128 (to_z w64 (of_z w64 c.args.low))))) ≡ c.args.high -ℤ
-        c.args.low = omega (arith, ints) in
+    c.args.low = omega (arith, ints) in
     rw (left, right) (decides (pos c.args.gain -ℤ pos c.args.loss) (c.args.high -ℤ c.args.low))

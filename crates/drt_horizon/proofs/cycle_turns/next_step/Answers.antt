@@ -13,9 +13,15 @@ cycle_turns-preserved c =
     let cycle_turns = rw f at c.cycle_turns.invariant.cycle_turns in
     elim c.if-other-next.branch [
       | then-other-next w ↦ rw (w.next-is, e)
-          (record { cycle_turns = cycle_turns.3; next = next_less _ _ _ _ _ c.cycle_turns.invariant.next c.next_of-other.ensures.next w.if-other-next.true;
-          near = c.next_of-other.ensures.near })
+          (record {
+            cycle_turns = cycle_turns.3;
+            next = next_less _ _ _ _ _ c.cycle_turns.invariant.next c.next_of-other.ensures.next w.if-other-next.true;
+            near = c.next_of-other.ensures.near;
+          })
       | else-other-next w ↦ rw (w.next-is, e)
-          (record { cycle_turns = cycle_turns.3; next = next_more _ _ _ _ _ c.cycle_turns.invariant.next c.next_of-other.ensures.next w.if-other-next.false;
-          near = c.cycle_turns.invariant.near })
+          (record {
+            cycle_turns = cycle_turns.3;
+            next = next_more _ _ _ _ _ c.cycle_turns.invariant.next c.next_of-other.ensures.next w.if-other-next.false;
+            near = c.cycle_turns.invariant.near;
+          })
     ]

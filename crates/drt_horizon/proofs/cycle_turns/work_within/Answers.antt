@@ -13,7 +13,7 @@ cycle_turns-preserved c =
     let cycle_turns = rw f at c.cycle_turns.invariant.cycle_turns in
     let total = rw (f, turned_cons) at c.cycle_turns.invariant.total in
     let term = mul-le (c.args.t / (get_or c.args.cycle_turns.now c.cycle_turns.i no_cycle_turn).span) (get_or c.args.cycle_turns.now c.cycle_turns.i no_cycle_turn).work
-        2000000000000000 100000000 (omega (arith, div-le_self c.args.t (get_or c.args.cycle_turns.now c.cycle_turns.i no_cycle_turn).span)) cycle_turns.2 in
+    2000000000000000 100000000 (omega (arith, div-le_self c.args.t (get_or c.args.cycle_turns.now c.cycle_turns.i no_cycle_turn).span)) cycle_turns.2 in
     record { cycle_turns = cycle_turns.3; total = omega arith; most = omega arith }
 
 pub returns : goal.returns

@@ -7,9 +7,13 @@ steps-init c = record { count = count_none c.args.cycle_turns.now; clear = λ s 
 
 pub returns-then-work_within-next : goal.returns-then-work_within-next
 returns-then-work_within-next c =
-    let is = c.next_step-next.ensures.next in
-    ((omega (arith, is.after), is.step), omega (arith, c.work_within.ensures), clear_to c.args.cycle_turns.now c.steps.t c.next_step-next.result is
-        c.steps.invariant.clear, omega (arith, count_more c.args.cycle_turns.now c.steps.t c.next_step-next.result is, c.steps.invariant.count))
+    let is = c.next_step-next.ensures.next in (
+      (omega (arith, is.after), is.step),
+      omega (arith, c.work_within.ensures),
+      clear_to c.args.cycle_turns.now c.steps.t c.next_step-next.result is
+          c.steps.invariant.clear,
+      omega (arith, count_more c.args.cycle_turns.now c.steps.t c.next_step-next.result is, c.steps.invariant.count),
+    )
 
 pub steps-preserved : goal.steps-preserved
 steps-preserved c =

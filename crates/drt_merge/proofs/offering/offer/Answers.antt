@@ -8,7 +8,7 @@ returns-in_ok-push-in-Kept-clause-rows c =
     let g = c.args.graph.now in let b = c.args.bound in let v = c.args.vertex in let old = c.args.lists.now in let m = c.args.mark in
     subst (AreRows g b) (sym c.in_ok-push-in-Kept.ensures)
     (rows_set g b v old (row old v ++ m ∷ []) c.requires.rows c.requires.vertex
-        (row_more g b v (row old v) m (c.requires.rows.each v c.requires.vertex) c.requires.walk c.requires.small c.in-Kept.ensures))
+    (row_more g b v (row old v) m (c.requires.rows.each v c.requires.vertex) c.requires.walk c.requires.small c.in-Kept.ensures))
 
 pub returns-in_ok-push-in-Kept-clause-grown : goal.returns-in_ok-push-in-Kept-clause-grown
 returns-in_ok-push-in-Kept-clause-grown c =

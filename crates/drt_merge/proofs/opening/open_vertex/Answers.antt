@@ -20,7 +20,7 @@ returns-in-Covered-clause-opened c =
     let g = c.args.graph.now in let b = c.args.bound in let v = c.args.vertex in let new = c.offer.new.lists in
     let e : c.from-2.result ≡ wcet g v = c.from-2.ensures ∙ ap (λ (x : Vertex). x.wcet) c.vertex-2.ensures in
     let is : IsCovered (row new v) (record { offset = 0; work = c.from-2.result }) = subst (λ o. IsOffered (row new v) (record { offset = 0; work = c.from-2.result }) o)
-        c.in-Covered.is c.in_ok-offer.ensures.offered in
+    c.in-Covered.is c.in_ok-offer.ensures.offered in
     opened_more g b v new (opened_grown g b v c.args.lists.now new c.in_ok-offer.ensures.grown c.requires.opened) (subst (λ w. IsCovered (row new v) (record { offset = 0; work = w })) e is)
 
 pub returns-in-Kept-clause-opened : goal.returns-in-Kept-clause-opened
@@ -28,5 +28,5 @@ returns-in-Kept-clause-opened c =
     let g = c.args.graph.now in let b = c.args.bound in let v = c.args.vertex in let new = c.offer.new.lists in
     let e : c.from-2.result ≡ wcet g v = c.from-2.ensures ∙ ap (λ (x : Vertex). x.wcet) c.vertex-2.ensures in
     let is : IsCovered (row new v) (record { offset = 0; work = c.from-2.result }) = subst (λ o. IsOffered (row new v) (record { offset = 0; work = c.from-2.result }) o)
-        c.in-Kept.is c.in_ok-offer.ensures.offered in
+    c.in-Kept.is c.in_ok-offer.ensures.offered in
     opened_more g b v new (opened_grown g b v c.args.lists.now new c.in_ok-offer.ensures.grown c.requires.opened) (subst (λ w. IsCovered (row new v) (record { offset = 0; work = w })) e is)

@@ -16,7 +16,7 @@ ended c =
     let b : c.den-b.result ≡ c.improving.ratio.den = c.den-b.ensures.value in
     let n : c.vertex_count-count.result ≡ vertex_count c.args.graph.now = c.vertex_count-count.ensures.count in
     let read : c.index.result.now ≡ level_of c.in_ok-levels.levels.items (c.vertex_count-count.result - 1) = get_or_read c.in_ok-levels.levels.items
-        (c.vertex_count-count.result - 1) c.index.result.now (omega (arith, c.in_ok-levels.ensures.count)) c.index.ensures no_level in
+    (c.vertex_count-count.result - 1) c.index.result.now (omega (arith, c.in_ok-levels.ensures.count)) c.index.ensures no_level in
     let is : c.index.result.now ≡ level_of c.in_ok-levels.levels.items (vertex_count c.args.graph.now - 1) = rw n at read in
     let settled : IsSettled c.in_ok-levels.levels.items (vertex_count c.args.graph.now) = rw (c.in_default.is, c.as_slice.ensures.value) at c.in_ok-found.ensures in
     let tower : IsTower c.args.graph.now c.improving.ratio.num c.improving.ratio.den c.in_ok-levels.levels.items = rw (a, b) at c.in_ok-levels.ensures.tower in
@@ -49,7 +49,7 @@ improving-smaller c =
     let value = rw c.as_slice-in-improving.ensures.value at c.ratio_of-ratio.ensures.value in
     measure_falls c.improving.ratio.num c.improving.ratio.den c.ratio_of-ratio.result.num c.ratio_of-ratio.result.den
     (cross c.improving.ratio.num c.improving.ratio.den c.ratio_of-ratio.result.num c.ratio_of-ratio.result.den (work c.args.graph.now c.in-Some.found.items)
-        (cycle_span c.args.graph.now c.in-Some.found.items) gain.gains value c.ratio_of-ratio.result.positive)
+    (cycle_span c.args.graph.now c.in-Some.found.items) gain.gains value c.ratio_of-ratio.result.positive)
     c.improving.ratio.positive c.ratio_of-ratio.result.positive c.improving.invariant.den_small c.ratio_of-ratio.ensures.den_small c.ratio_of-ratio.ensures.num_small
 
 pub improving-preserved : goal.improving-preserved

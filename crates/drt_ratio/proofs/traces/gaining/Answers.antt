@@ -10,12 +10,12 @@ unreachable-requires c =
     let sound = c.keep_limits.ensures in
     let distinct : AreDistinct c.in_ok-walk.walk.items = rw c.as_slice.ensures.value at c.in_default-repeat.ensures in
     must_repeat c.args.graph.now c.args.a c.args.b c.args.levels.now (vertex_count c.args.graph.now) c.in-Some.v c.in_ok-walk.walk.items sound c.requires.tower
-        c.requires.count refl sound.some c.in-Some.ensures.0 c.in-Some.ensures.1 c.in_ok-walk.ensures distinct
+    c.requires.count refl sound.some c.in-Some.ensures.0 c.in-Some.ensures.1 c.in_ok-walk.ensures distinct
 
 pub returns : goal.returns
 returns c =
     let sound = c.keep_limits.ensures in
     let again : IsRepeat c.in_ok-walk.walk.items c.in-Some-repeat.i c.in-Some-repeat.j = rw c.as_slice.ensures.value at c.in-Some-repeat.ensures in
     rw (c.in_ok-cycle.ensures.items, c.as_slice-2.ensures.value)
-        (gain_found c.args.graph.now c.args.a c.args.b c.args.levels.now (vertex_count c.args.graph.now) c.in-Some.v c.in-Some-repeat.i c.in-Some-repeat.j
-        c.in_ok-walk.walk.items sound c.requires.tower c.requires.count refl sound.some c.in-Some.ensures.0 c.in-Some.ensures.1 c.in_ok-walk.ensures again)
+    (gain_found c.args.graph.now c.args.a c.args.b c.args.levels.now (vertex_count c.args.graph.now) c.in-Some.v c.in-Some-repeat.i c.in-Some-repeat.j
+    c.in_ok-walk.walk.items sound c.requires.tower c.requires.count refl sound.some c.in-Some.ensures.0 c.in-Some.ensures.1 c.in_ok-walk.ensures again)

@@ -28,4 +28,4 @@ steps-preserved c =
     let q = gap_of g c.steps.vertex v c.in-Some.gap e in
     let time : c.steps.time + c.from-time.result ≡ c.steps.time + gap g c.steps.vertex v = omega (arith, q.0, c.from-time.ensures) in
     rw (c.in_ok-push-2.ensures.items, c.release_at-in-steps.ensures, time)
-        (stepped g c.vertex_count-count.ensures.sound c.args.task c.args.t _ c.steps.releases.items c.steps.time c.steps.vertex v _ step)
+    (stepped g c.vertex_count-count.ensures.sound c.args.task c.args.t _ c.steps.releases.items c.steps.time c.steps.vertex v _ step)

@@ -5,7 +5,7 @@ use Rattle.drt_replay.proofs.events.first_ready.Goals as goal
 pub offset_bounds-left-j : goal.offset_bounds-left-j
 offset_bounds-left-j c =
     let here : c.in-Some.entry.now.0.place < length c.args.left.now = cleared_here c.args.left.now c.args.ready.now c.loop-entry.ready (length c.args.left.now)
-        c.loop-entry.invariant c.requires c.in-Some.entry.now.0 c.in-Some.ensures in
+    c.loop-entry.invariant c.requires c.in-Some.entry.now.0 c.in-Some.ensures in
     omega arith
 
 pub bounds-left-j : goal.bounds-left-j

@@ -10,7 +10,7 @@ overflow_cast-job c =
     let set : Contents = c.args.given.set.now in
     let limits = c.keep_limits.ensures.limits in
     let most = ticks_most set.version set.tasks limits c.args.given.tails.now c.requires.given.tails c.args.at.task c.args.at.vertex c.requires.task c.requires.vertex
-        c.args.ticks c.args.walks.now c.requires.worst in
+    c.args.ticks c.args.walks.now c.requires.worst in
     grind (arith, common_steps, most)
 
 pub reaching_releases-requires-clause-walks : goal.reaching_releases-requires-clause-walks
@@ -18,14 +18,14 @@ reaching_releases-requires-clause-walks c =
     let set : Contents = c.args.given.set.now in
     let limits = c.keep_limits.ensures.limits in
     are_walks set.version set.tasks limits c.args.given.tails.now c.requires.given.tails c.args.at.task c.args.at.vertex c.requires.task c.requires.vertex c.args.ticks
-        c.args.walks.now c.requires.worst
+    c.args.walks.now c.requires.worst
 
 pub reaching_releases-requires-clause-finish : goal.reaching_releases-requires-clause-finish
 reaching_releases-requires-clause-finish c =
     let set : Contents = c.args.given.set.now in
     let limits = c.keep_limits.ensures.limits in
     ticks_most set.version set.tasks limits c.args.given.tails.now c.requires.given.tails c.args.at.task c.args.at.vertex c.requires.task c.requires.vertex c.args.ticks
-        c.args.walks.now c.requires.worst
+    c.args.walks.now c.requires.worst
 
 pub returns : goal.returns
 returns c =

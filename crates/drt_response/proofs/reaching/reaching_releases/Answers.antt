@@ -17,7 +17,7 @@ all_releases-requires-clause-walks c =
     let kept : AreGraphs (graphs_of tasks) = subst AreGraphs c.graphs-graphs.ensures.graphs c.keep_limits.ensures in
     let walks : ℕ → List ℕ = walk_at c.as_slice.result.now in
     let same : (i : ℕ) → i < length tasks → walks i ≡ job_walk_in_priority_order tasks c.args.walks.now k v n i = λ i l. ap (λ (ws : List (List ℕ)). walk_at ws i)
-        c.as_slice.ensures.value ∙ c.in_ok-chosen.ensures.each i l in
+    c.as_slice.ensures.value ∙ c.in_ok-chosen.ensures.each i l in
     due_walks tasks c.args.walks.now k v n kept c.requires.walks c.requires.task c.requires.vertex c.requires.finish walks same c.graphs-graphs.result.now c.graphs-graphs.ensures.graphs
 
 pub returns : goal.returns
@@ -28,5 +28,5 @@ returns c =
     let n = c.args.job.finish in
     let walks : ℕ → List ℕ = walk_at c.as_slice.result.now in
     let same : (i : ℕ) → i < length tasks → walks i ≡ job_walk_in_priority_order tasks c.args.walks.now k v n i = λ i l. ap (λ (ws : List (List ℕ)). walk_at ws i)
-        c.as_slice.ensures.value ∙ c.in_ok-chosen.ensures.each i l in
+    c.as_slice.ensures.value ∙ c.in_ok-chosen.ensures.each i l in
     c.from_vec.ensures ∙ (c.in_ok-releases.ensures tasks c.graphs-graphs.ensures.graphs ∙ all_same tasks walks (job_walk_in_priority_order tasks c.args.walks.now k v n) (length tasks) same)

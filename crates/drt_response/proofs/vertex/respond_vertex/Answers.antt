@@ -140,6 +140,9 @@ returns-in_ok-releases-in-Reached g c =
     let came : IsGreatest s (take m trees.roots) c.in-Reached.ticks c.in-Reached.leaves = rw (c.in-Reached.is, roots, subject) at c.in_ok-taken.ensures in
     let releases : c.in_ok-releases-in-Reached.releases ≡ leaf_releases tasks trees.forest trees.order c.in-Reached.leaves k v c.in-Reached.ticks
     = c.in_ok-releases-in-Reached.ensures.releases ∙ ap (λ (xs : List ℕ). leaf_releases tasks trees.forest xs c.in-Reached.leaves k v c.in-Reached.ticks) order in
-    let r : Response = record { task = k; vertex = v; ticks = c.in-Reached.ticks; releases = c.in_ok-releases-in-Reached.releases } in
-    (refl, refl, response set trees c.requires.trees m k at v c.requires.vertex c.graphs-graphs.ensures.constrained c.leaves_respond.ensures c.in-Reached.ticks
-        c.in-Reached.leaves came r refl refl refl releases)
+    let r : Response = record { task = k; vertex = v; ticks = c.in-Reached.ticks; releases = c.in_ok-releases-in-Reached.releases } in (
+      refl,
+      refl,
+      response set trees c.requires.trees m k at v c.requires.vertex c.graphs-graphs.ensures.constrained c.leaves_respond.ensures c.in-Reached.ticks
+          c.in-Reached.leaves came r refl refl refl releases,
+    )

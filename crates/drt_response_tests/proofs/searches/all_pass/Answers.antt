@@ -19,5 +19,5 @@ returns-in-Finished g c answers tuple below =
     let stops : IsTrue (is_finished s (state_of v)) = subst (λ r. StopsAt s (state_of v) r) c.in-Finished.is c.in_ok-_frontier.ensures.stops in
     let finished : IsTrue (is_finished s (replay s v.log)) = subst (λ (x : FrontierState). IsTrue (is_finished s x)) front.state stops in
     let passed = c.over_every_interleaving.ensures.finished s v.log front.forest front.roots front.run finished tuple
-        (subst (λ (x : FrontierSetting). AreBelow x.forest tuple x.roots) (sym same) below) in
+    (subst (λ (x : FrontierSetting). AreBelow x.forest tuple x.roots) (sym same) below) in
     subst (λ (x : FrontierSetting). (n : ℕ) × Passes x.wcet x.deadline x.forest.pool tuple n) same (passed.time, passed.tuple_passes)

@@ -17,4 +17,4 @@ returns c passes =
     let same = eqb-true c.offered-offered.result c.out_degree.result passes in
     let degree = c.out_degree.ensures ∙ (ap (λ g. out_degree g c.label.inside.vertex) c.requires ∙ ap (λ x. out_degree c.args.table.now.graph x) vertex) in
     can_close c.args.table.now c.args.worker c.args.node c.node.result.now c.node-2.result.now (sym c.held_by.ensures ∙ (c.in-Some.is ∙ ap Some c.if-held-node.true))
-        c.node.ensures c.node-2.ensures (offered ∙ (same ∙ degree))
+    c.node.ensures c.node-2.ensures (offered ∙ (same ∙ degree))

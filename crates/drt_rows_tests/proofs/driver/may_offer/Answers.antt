@@ -18,4 +18,4 @@ returns c passes =
     let next : c.args.edge ≡ c.offered-offered.result = omega (arith, c.if-edge-offered.false) in
     let degree = c.out_degree.ensures ∙ (ap (λ g. out_degree g c.label.inside.vertex) c.requires ∙ ap (λ x. out_degree c.args.table.now.graph x) vertex) in
     can_offer c.args.table.now c.args.worker c.args.node c.args.edge c.node.result.now c.node-2.result.now
-        (sym c.held_by.ensures ∙ (c.in-Some.is ∙ ap Some c.if-held-node.true)) c.node.ensures c.node-2.ensures (next ∙ sym offered) (omega (arith, less, degree))
+    (sym c.held_by.ensures ∙ (c.in-Some.is ∙ ap Some c.if-held-node.true)) c.node.ensures c.node-2.ensures (next ∙ sym offered) (omega (arith, less, degree))

@@ -75,7 +75,7 @@ loop-preserved c =
     = subst (λ (l : List ℕ). IsRead t.forest t.wcet t.deadline t.roots cs c.loop.items.items l) c.in-Some.ensures.items c.loop.invariant.read in
     let added : (added : List Item) × (c.add_items.new.items.items ≡ c.loop.items.items ++ added)
     × ((x : Combination) → slice_get cs c.in-Some.id ≡ Some x → AreAdded c.args.forest.now c.args.frontier.now.wcet c.args.frontier.now.deadline x.state x.nodes added
-        c.pop.new.self.items c.add_items.new.stack.items)
+    c.pop.new.self.items c.add_items.new.stack.items)
     = c.in_ok-add_items.ensures.added c.if-not-branch.false in
     record {
       read =

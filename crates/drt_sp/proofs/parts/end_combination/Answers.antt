@@ -33,8 +33,8 @@ loop-preserved c =
     let nodes = c.args.nodes.now in
     let stack : c.loop.stack.items ≡ c.pop.new.self.items ++ c.in-Some.top ∷ [] = c.in-Some.ensures.items in
     let before : IsEnding f w d nodes c.loop.items.items (c.pop.new.self.items ++ c.in-Some.top ∷ []) = subst
-        (λ (s : List (List ℕ)). IsEnding f w d nodes c.loop.items.items s) stack c.loop.invariant in
+    (λ (s : List (List ℕ)). IsEnding f w d nodes c.loop.items.items s) stack c.loop.invariant in
     let next : IsNextItem f w d c.in-Some.top c.pop.new.self.items c.take_next.new.stack.items c.in-Some-2.item = rw c.in-Some-2.is at c.in_ok-item.ensures in
     let more : c.loop.items.items ++ c.in-Some-2.item ∷ [] ≡ c.push-in-Some-2.new.self.items = sym c.in_ok-push-in-Some-2.ensures.items in
     subst (λ (l : List Item). IsEnding f w d nodes l c.take_next.new.stack.items) more
-        (ending_more f w d nodes c.loop.items.items c.pop.new.self.items c.take_next.new.stack.items c.in-Some.top c.in-Some-2.item before next)
+    (ending_more f w d nodes c.loop.items.items c.pop.new.self.items c.take_next.new.stack.items c.in-Some.top c.in-Some-2.item before next)

@@ -34,7 +34,7 @@ leaf_releases-requires-clause-end c =
     let end : c.vertex.result.now.deadline ≡ deadline (graph_at tasks j) v = ap (λ x. x.deadline) c.vertex.ensures ∙ ap (λ g. deadline g v) graph in
     let kept : AreGraphs (graphs_of tasks) = subst AreGraphs c.graphs-graphs.ensures.graphs c.keep_limits.ensures in
     let sound : IsSoundGraph (graph_at tasks j) = subst IsSoundGraph (graph_same tasks j failed.reached.task)
-        (kept.sound j no_graph (omega (arith, failed.reached.task, length-map tasks digraph_of))) in
+    (kept.sound j no_graph (omega (arith, failed.reached.task, length-map tasks digraph_of))) in
     omega (arith, (sound.deadline v failed.reached.posed.subject.vertex).1, end)
 
 pub returns-clause-verdict : goal.returns-clause-verdict
@@ -51,7 +51,7 @@ returns-clause-verdict c =
     let end : c.vertex.result.now.deadline ≡ deadline (graph_at tasks j) v = ap (λ x. x.deadline) c.vertex.ensures ∙ ap (λ g. deadline g v) graph in
     let kept : AreGraphs (graphs_of tasks) = subst AreGraphs c.graphs-graphs.ensures.graphs c.keep_limits.ensures in
     let sound : IsSoundGraph (graph_at tasks j) = subst IsSoundGraph (graph_same tasks j failed.reached.task)
-        (kept.sound j no_graph (omega (arith, failed.reached.task, length-map tasks digraph_of))) in
+    (kept.sound j no_graph (omega (arith, failed.reached.task, length-map tasks digraph_of))) in
     let releases : c.in_ok-releases.releases ≡ no_releases tasks f order tuple j v = c.in_ok-releases.ensures.releases ∙ ap (λ (d : ℕ). leaf_releases tasks f order tuple j v d) end in
     let due : c.from.result ≡ deadline (graph_at tasks j) v = c.from.ensures ∙ end in
     let name : ℕ → Miss = λ (d : ℕ). record { task = j; index = 0; deadline = d } in
@@ -71,7 +71,7 @@ returns-clause-range c =
     let end : c.vertex.result.now.deadline ≡ deadline (graph_at tasks j) v = ap (λ x. x.deadline) c.vertex.ensures ∙ ap (λ g. deadline g v) graph in
     let kept : AreGraphs (graphs_of tasks) = subst AreGraphs c.graphs-graphs.ensures.graphs c.keep_limits.ensures in
     let sound : IsSoundGraph (graph_at tasks j) = subst IsSoundGraph (graph_same tasks j failed.reached.task)
-        (kept.sound j no_graph (omega (arith, failed.reached.task, length-map tasks digraph_of))) in
+    (kept.sound j no_graph (omega (arith, failed.reached.task, length-map tasks digraph_of))) in
     let due : c.from.result ≡ deadline (graph_at tasks j) v = c.from.ensures ∙ end in
     let name : ℕ → Miss = λ (d : ℕ). record { task = j; index = 0; deadline = d } in
     subst (λ (d : ℕ). AreInRangeReleases c.in_ok-releases.releases (name d)) (sym due)

@@ -12,7 +12,7 @@ lent : (c : goal.After-add_tree-arg-1) → AreLent c.args.graph.now c.args.bound
 lent c =
     let are : AreLeavesOf c.args.graph.now c.args.bound c.in-Finished.leaves = rw c.in-Finished.is at c.in_ok-end.ensures in
     lent_leaves c.args.graph.now c.args.bound c.in-Finished.leaves are c.requires.from c.as_slice.result.now c.as_slice-in-Finished.result.now c.as_slice.ensures.value
-        c.as_slice-in-Finished.ensures.value
+    c.as_slice-in-Finished.ensures.value
 
 pub add_tree-requires-clause-some : goal.add_tree-requires-clause-some
 add_tree-requires-clause-some c = (lent c).some

@@ -13,4 +13,4 @@ returns-clause-before c = front_before c.args.jumps.now c.args.t c.place_of-plac
 pub returns-clause-level : goal.returns-clause-level
 returns-clause-level c s late le =
     place_level c.args.jumps.now s c.args.t c.place_of-place.result c.requires.order c.place_of-place.ensures le
-        (λ k j e at. subst (λ (y : Jump). y.after < s) (front_is c.args.jumps.now c.place_of-place.result k j e at) late)
+    (λ k j e at. subst (λ (y : Jump). y.after < s) (front_is c.args.jumps.now c.place_of-place.result k j e at) late)

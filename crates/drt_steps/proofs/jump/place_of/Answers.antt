@@ -13,7 +13,7 @@ returns c =
     let i : ℕ = c.partition_point.result in
     let parted = IsPartitionedBy-ltb (λ (j : Jump). j.after) js c.args.t (in_order js c.requires) in
     let point : IsPartitionPoint (λ (y : Jump). ltb y.after c.args.t ≡ true) (λ (y : Jump). ltb y.after c.args.t ≡ false) js i = IsPartitionPoint-from_clause
-        (λ (j : Jump). ltb j.after c.args.t) js i c.partition_point.ensures.partitioned parted (λ a r q k. search rules) in
+    (λ (j : Jump). ltb j.after c.args.t) js i c.partition_point.ensures.partitioned parted (λ a r q k. search rules) in
     let bound : i ≤ length js = c.partition_point.ensures.bound in
     record {
       reached = record {

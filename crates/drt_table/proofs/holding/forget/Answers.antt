@@ -26,4 +26,4 @@ returns-in-Some-clause-others c k ne old =
     let item : f.item ≡ c.args.id = grind (arith, nat_tests) in
     subst (λ xs. Contains xs k) (sym c.swap_remove.ensures.items)
     (others_stay taken c.in-Some.j c.args.id c.swap_remove.result lt (c.swap_remove.ensures.value)
-        (c.swap_remove.ensures.value ∙ (get_or_from_slice_get taken c.in-Some.j f.item c.swap_remove.result f.at ∙ item)) k ne old)
+    (c.swap_remove.ensures.value ∙ (get_or_from_slice_get taken c.in-Some.j f.item c.swap_remove.result f.at ∙ item)) k ne old)

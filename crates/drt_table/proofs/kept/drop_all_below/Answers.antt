@@ -20,7 +20,7 @@ loop-next-init g c =
     let xs = c.args.nodes.now in
     let head : Option ℕ = slice_index_or c.args.heads.now c.vertex-vertex.result None in
     let there : slice_get c.args.heads.now c.vertex-vertex.result ≡ Some head = slice_get-get_or c.args.heads.now c.vertex-vertex.result None
-        (omega (arith, c.vertex-vertex.ensures, c.requires.vertex)) in
+    (omega (arith, c.vertex-vertex.ensures, c.requires.vertex)) in
     sweep_start a laws l n xs c.args.links.now c.args.heads.now c.requires.linked head (subst (λ v. slice_get c.args.heads.now v ≡ Some head) c.vertex-vertex.ensures there)
 
 pub bounds-nodes-id : goal.bounds-nodes-id

@@ -35,7 +35,7 @@ returns-clause-linked g c =
     ∙ (c.link.ensures.links ∙ (ap (λ xs. links_after c.args.last (Some c.len-number.result) xs) c.as_mut_slice.ensures.value ∙ ap (λ m. links_after c.args.last (Some m) links) number))) in
     let heads_are : c.link.new.heads ≡ heads_after (a.vertex z.node.label) c.args.last (Some n) heads =
     c.link.ensures.heads ∙ (ap (λ v. heads_after v c.args.last (Some c.len-number.result) heads) c.vertex-vertex.ensures
-        ∙ ap (λ m. heads_after (a.vertex z.node.label) c.args.last (Some m) heads) number) in
+    ∙ ap (λ m. heads_after (a.vertex z.node.label) c.args.last (Some m) heads) number) in
     subst (λ xs. AreLinked a xs c.push_within-2.new.items.items c.link.new.heads) (sym nodes_are)
     (subst (λ xs. AreLinked a (nodes ++ z ∷ []) xs c.link.new.heads) (sym links_are)
     (subst (λ xs. AreLinked a (nodes ++ z ∷ []) (links_after c.args.last (Some n) links ++ q ∷ []) xs) (sym heads_are) ok))

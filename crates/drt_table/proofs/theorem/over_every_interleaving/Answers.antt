@@ -14,7 +14,7 @@ returns-clause-order g c t log sound run = run_order g.L.Label.algebra (g.met.L.
 pub returns-clause-front : goal.returns-clause-front
 returns-clause-front g c t log sound takes run finished =
     run_front g.L.Label.algebra (g.met.L.Label g.world.𝓛 g.world.𝓜 g.world.𝓡 ((λ s x. x), (λ x. x), (λ x. x), λ x. x)).laws t takes (replay g.L.Label.algebra t log)
-        (run_keeps g.L.Label.algebra (g.met.L.Label g.world.𝓛 g.world.𝓜 g.world.𝓡 ((λ s x. x), (λ x. x), (λ x. x), λ x. x)).laws t log run) finished
+    (run_keeps g.L.Label.algebra (g.met.L.Label g.world.𝓛 g.world.𝓜 g.world.𝓡 ((λ s x. x), (λ x. x), (λ x. x), λ x. x)).laws t log run) finished
 
 pub returns-clause-bounded : goal.returns-clause-bounded
 returns-clause-bounded g c t log sound takes run = run_bounded g.L.Label.algebra (g.met.L.Label g.world.𝓛 g.world.𝓜 g.world.𝓡 ((λ s x. x), (λ x. x), (λ x. x), λ x. x)).laws t takes sound log run

@@ -16,6 +16,6 @@ returns c =
     ∙ ap (λ (xs : List FrontEntry). map (jumps_at xs) (range_with_len 0 c.vertex_count-count.result)) c.as_slice.ensures
     ∙ ap (λ (n : ℕ). map (jumps_at c.in-Some-2.front) (range_with_len 0 n)) c.vertex_count-count.ensures.count in
     let is = found c.args.graph.now c.graph.result.now c.in-Some.turned c.args.bound c.in-Some-2.front (record { curves = c.from_vec.result })
-        c.vertex_count-count.ensures.sound turned c.graph.ensures.graph c.graph.ensures.sound
+    c.vertex_count-count.ensures.sound turned c.graph.ensures.graph c.graph.ensures.sound
     c.requires.some merged cut in
     record { tail = is.0; bounds = is.1; attained = is.2 }

@@ -16,8 +16,16 @@ overflow_add-index_mut c =
     let below : task < length counts = omega (arith, c.requires i no_release c.loop-release-test.true, c.loop-release.invariant.counted) in
     let was : c.index_mut.result.now ≡ get_or counts task 0 = get_or_read counts task c.index_mut.result.now below c.index_mut.ensures.value 0 in
     let counted : c.index_mut.result.now ≡ count_of releases task i = was ∙ c.loop-release.invariant.counts task below in
-    omega (arith, counted, count_by-le-length (λ r. eqb r.task task) (take i releases), length-take i releases, c.loop-release.invariant.as_many,
-        c.loop-release.indices.small, c.loop-release.indices.ok.0, c.loop-release.indices.ok.1)
+    omega (
+      arith,
+      counted,
+      count_by-le-length (λ r. eqb r.task task) (take i releases),
+      length-take i releases,
+      c.loop-release.invariant.as_many,
+      c.loop-release.indices.small,
+      c.loop-release.indices.ok.0,
+      c.loop-release.indices.ok.1,
+    )
 
 pub loop-release-preserved : goal.loop-release-preserved
 loop-release-preserved c =

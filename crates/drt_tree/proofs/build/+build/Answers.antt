@@ -51,7 +51,7 @@ returns-clause-built t c =
     let el : c.index.result.now ≡ node_values_in b l = c.index.ensures ∙ any_default c.index.result.now [] b.pool l (omega arith) in
     let er : c.index-2.result.now ≡ node_values_in b r = c.index-2.ensures ∙ any_default c.index-2.result.now [] b.pool r (omega arith) in
     let most : c.in_ok-most.most ≡ max_of (node_values_in b l) (node_values_in b r) = c.in_ok-most.ensures
-        ∙ (ap (λ z. max_of z c.index-2.result.now) el ∙ ap (λ z. max_of (node_values_in b l) z) er) in
+    ∙ (ap (λ z. max_of z c.index-2.result.now) el ∙ ap (λ z. max_of (node_values_in b l) z) er) in
     let none : c.from_vec.result ≡ [] = c.from_vec.ensures ∙ c.new.ensures.items in
     let p : Paired b count l r g = record {
       nodes = c.in_ok-push-2.ensures.items ∙ ap (λ z. b.nodes ++ record { children = Some (l, r); leaves = count; walk = z } ∷ []) none;
@@ -59,5 +59,5 @@ returns-clause-built t c =
     } in
     let built : IsBuilt f g c.args.low count (length b.nodes) =
     built_two f a b g c.args.low count (count - count / 2) (count / 2) l r (omega arith) (omega arith) (omega arith) c.in_ok-left.ensures.grows c.in_ok-left.ensures.built
-        c.in_ok-right.ensures.grows c.in_ok-right.ensures.built p in
+    c.in_ok-right.ensures.grows c.in_ok-right.ensures.built p in
     subst (λ (z : ℕ). IsBuilt f g c.args.low count z) (let e : length c.build-2.new.nodes.items ≡ c.len-root.result = search rules in e) built

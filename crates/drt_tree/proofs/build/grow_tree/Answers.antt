@@ -31,7 +31,7 @@ build-requires-clause-forest c =
     let f : Plain = plain c.args.nodes.now.items c.args.pool.now.items in
     let perm : IsPermutation ls sorted = subst (λ (z : List Leaf). IsPermutation z sorted) c.in_ok-leaves.ensures c.in_ok-sort_leaves.ensures.permutation in
     let e : plain c.place.new.nodes.items c.place.new.pool.items ≡ with_leaves f sorted = plain_is c.place.new.nodes.items _ c.place.new.pool.items _
-        c.in_ok-place.ensures.nodes c.in_ok-place.ensures.pool in
+    c.in_ok-place.ensures.nodes c.in_ok-place.ensures.pool in
     subst (λ (z : Plain). IsForest z) (sym e) (with_forest f sorted c.requires.forest (one_bound f.pool ls sorted perm c.requires.bound))
 
 pub build-requires-clause-some : goal.build-requires-clause-some
@@ -49,7 +49,7 @@ build-requires-clause-leaves c k from to =
     let sorted : List Leaf = c.sort_leaves.new.leaves.items in
     let f : Plain = plain c.args.nodes.now.items c.args.pool.now.items in
     let e : plain c.place.new.nodes.items c.place.new.pool.items ≡ with_leaves f sorted = plain_is c.place.new.nodes.items _ c.place.new.pool.items _
-        c.in_ok-place.ensures.nodes c.in_ok-place.ensures.pool in
+    c.in_ok-place.ensures.nodes c.in_ok-place.ensures.pool in
     let n : length c.args.nodes.now.items ≡ c.len-low.result = search rules in
     ap (λ z. children z k) e ∙ leaf_none f sorted k (omega arith)
 

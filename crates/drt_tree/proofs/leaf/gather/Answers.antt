@@ -12,7 +12,7 @@ loop-i-preserved c =
     let lt : i < length c.args.labels.now = omega (arith, c.loop-i-test.true) in
     let lt2 : i < length c.args.walks.now = omega (arith, c.requires) in
     let more : leaves_of (take (i + 1) c.args.labels.now) (take (i + 1) c.args.walks.now) ≡ leaves_of (take i c.args.labels.now) (take i c.args.walks.now) ++ record
-        { steps = c.index-labels-i.result.value.values; walk = c.index-walks-i.result } ∷ [] =
+    { steps = c.index-labels-i.result.value.values; walk = c.index-walks-i.result } ∷ [] =
     leaves_more c.args.labels.now c.args.walks.now i c.index-labels-i.result c.index-walks-i.result
     (slice_get_read c.args.labels.now (length c.args.labels.now) i c.index-labels-i.result refl lt c.index-labels-i.is)
     (slice_get_read c.args.walks.now (length c.args.walks.now) i c.index-walks-i.result refl lt2 c.index-walks-i.is) in

@@ -10,7 +10,7 @@ pub join-requires-clause-name : goal.join-requires-clause-name
 join-requires-clause-name c =
     let inv = c.hands.invariant in let l = c.args.lock in
     let last = places_last (λ hand. (hand.lock_seat.table_id ≡ l.name) × Rests l.fixed 1 0 hand.lock_seat.me) c.pop.new.self.items c.hands.hands.items c.in-Some.hand
-        c.in-Some.ensures.items inv.each in
+    c.in-Some.ensures.items inv.each in
     (inv.name, last.1.0)
 
 pub join-requires-clause-seat : goal.join-requires-clause-seat
@@ -21,7 +21,7 @@ pub join-requires-clause-other : goal.join-requires-clause-other
 join-requires-clause-other c =
     let inv = c.hands.invariant in let l = c.args.lock in
     let last = places_last (λ hand. (hand.lock_seat.table_id ≡ l.name) × Rests l.fixed 1 0 hand.lock_seat.me) c.pop.new.self.items c.hands.hands.items c.in-Some.hand
-        c.in-Some.ensures.items inv.each in
+    c.in-Some.ensures.items inv.each in
     ((last.1.1.0.0, refl, refl), last.1.1.1, last.1.1.2)
 
 -- the counts of parts and of steps after a hand is joined, whose hands were n and are m now
@@ -42,7 +42,7 @@ pub hands-preserved : goal.hands-preserved
 hands-preserved c =
     let inv = c.hands.invariant in let l = c.args.lock in let owner = inv.owner in
     let last = places_last (λ hand. (hand.lock_seat.table_id ≡ l.name) × Rests l.fixed 1 0 hand.lock_seat.me) c.pop.new.self.items c.hands.hands.items c.in-Some.hand
-        c.in-Some.ensures.items inv.each in
+    c.in-Some.ensures.items inv.each in
     let hand = last.1.1.0 in let joined = c.join.ensures.seat in
     let popped : length c.hands.hands.items ≡ length c.pop.new.self.items + 1 = ap length c.in-Some.ensures.items ∙ length-append c.pop.new.self.items (c.in-Some.hand ∷ []) in
     record {

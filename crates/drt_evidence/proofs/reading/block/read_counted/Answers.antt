@@ -19,4 +19,4 @@ pub returns-clause-read : goal.returns-clause-read
 returns-clause-read g c =
     let h = counted_read g.B.Block.block g.B.Block.is_stated c.args.word.now c.in_ok-count.ensures.read c.in_ok-blocks.ensures.read in
     subst (λ xs. ReadsBlock (count_and_blocks c.args.word.now g.B.Block.block) (AreItemsCounted g.B.Block.is_stated) c.args.text.now.rest.now xs
-        c.read_each.new.text.rest.now) (sym c.from_vec.ensures) h
+    c.read_each.new.text.rest.now) (sym c.from_vec.ensures) h

@@ -12,4 +12,4 @@ returns-in_err-vertex c = rw c.from_residual-in_err-vertex.ensures (line_broken 
 pub returns : goal.returns
 returns c =
     line_is entry_shape c.args.line.now c.in_ok-rest.rest.now (c.in_ok-vertex.vertex, (c.in_ok-vertex.offset, c.in_ok-vertex.work))
-        (record { vertex = c.in_ok-vertex.vertex; offset = c.in_ok-vertex.offset; work = c.in_ok-vertex.work }) c.in_ok-rest.ensures c.in_ok-vertex.ensures refl
+    (record { vertex = c.in_ok-vertex.vertex; offset = c.in_ok-vertex.offset; work = c.in_ok-vertex.work }) c.in_ok-rest.ensures c.in_ok-vertex.ensures refl

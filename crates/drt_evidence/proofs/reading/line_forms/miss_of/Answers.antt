@@ -12,4 +12,4 @@ returns-in_err-task c = rw c.from_residual-in_err-task.ensures (line_broken miss
 pub returns : goal.returns
 returns c =
     line_is miss_shape c.args.line.now c.in_ok-rest.rest.now (c.in_ok-task.task, (c.in_ok-task.index, c.in_ok-task.deadline))
-        (record { task = c.in_ok-task.task; index = c.in_ok-task.index; deadline = c.in_ok-task.deadline }) c.in_ok-rest.ensures c.in_ok-task.ensures refl
+    (record { task = c.in_ok-task.task; index = c.in_ok-task.index; deadline = c.in_ok-task.deadline }) c.in_ok-rest.ensures c.in_ok-task.ensures refl

@@ -12,4 +12,4 @@ returns-in_err-left c = rw c.from_residual-in_err-left.ensures (line_broken pair
 pub returns : goal.returns
 returns c =
     line_is pair_shape c.args.line.now c.in_ok-behind_word.field-0.now (c.in_ok-left.left, c.in_ok-left.right)
-        (record { left = c.in_ok-left.left; right = c.in_ok-left.right }) c.in_ok-behind_word.ensures c.in_ok-left.ensures refl
+    (record { left = c.in_ok-left.left; right = c.in_ok-left.right }) c.in_ok-behind_word.ensures c.in_ok-left.ensures refl

@@ -12,4 +12,4 @@ returns-in_err-task c = rw c.from_residual-in_err-task.ensures (line_broken rele
 pub returns : goal.returns
 returns c =
     line_is release_shape c.args.line.now c.in_ok-behind_word.field-0.now (c.in_ok-task.task, (c.in_ok-task.vertex, (c.in_ok-task.time, c.in_ok-task.need)))
-        (record { task = c.in_ok-task.task; vertex = c.in_ok-task.vertex; time = c.in_ok-task.time; need = c.in_ok-task.need }) c.in_ok-behind_word.ensures c.in_ok-task.ensures refl
+    (record { task = c.in_ok-task.task; vertex = c.in_ok-task.vertex; time = c.in_ok-task.time; need = c.in_ok-task.need }) c.in_ok-behind_word.ensures c.in_ok-task.ensures refl

@@ -11,7 +11,7 @@ returns-in-None c = line_other (numbers_shape c.args.word.now) c.args.line.now c
 pub returns-in-Some-2 : goal.returns-in-Some-2
 returns-in-Some-2 c =
     line_is (numbers_shape c.args.word.now) c.args.line.now c.in-Some.rest.now c.in-Some-2.found.items c.from_vec.result c.in-Some.ensures
-        (rw c.in-Some-2.is at c.in_ok-found.ensures) c.from_vec.ensures
+    (rw c.in-Some-2.is at c.in_ok-found.ensures) c.from_vec.ensures
 
 pub returns-in-None-2 : goal.returns-in-None-2
 returns-in-None-2 c = line_broken (numbers_shape c.args.word.now) c.args.line.now c.in-Some.rest.now c.in-Some.ensures (rw c.in-None-2.is at c.in_ok-found.ensures)

@@ -11,7 +11,7 @@ returns-in-None c = rest_none decimal IsNumber (pair_form decimal (list_form ite
 pub returns-in-Some-2 : goal.returns-in-Some-2
 returns-in-Some-2 c =
     rest_is decimal IsNumber (pair_form decimal (list_form item_field)) (AreBoth IsNumber (AreItemsCounted IsInRangeItem)) c.args.bytes.now c.in-Some.parts.1.now
-        c.in-Some.parts.0 (c.in-Some-2.others.0, c.in-Some-2.others.1.items)
+    c.in-Some.parts.0 (c.in-Some-2.others.0, c.in-Some-2.others.1.items)
     c.in-Some.ensures (rw c.in-Some-2.is at c.in_ok-others.ensures)
 
 pub returns-in-None-2 : goal.returns-in-None-2

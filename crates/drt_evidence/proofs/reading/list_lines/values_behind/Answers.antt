@@ -10,7 +10,7 @@ returns-in-None g c =
 pub fields-preserved : goal.fields-preserved
 fields-preserved g c =
     loop_more g.F.Field.field g.F.Field.is_stated c.requires (left c.args.rest) c.cut_field.result.0.now c.fields.rest c.cut_field.result.1 c.in-Some.bytes
-        c.fields.found.items c.push.new.self.items c.in-Some-of.value
+    c.fields.found.items c.push.new.self.items c.in-Some-of.value
     c.fields.invariant c.in-Some.is c.cut_field.ensures.field c.cut_field.ensures.rest c.in-Some-of.ensures c.in_ok-push-in-Some-of.ensures.items
 
 pub returns : goal.returns

@@ -31,14 +31,14 @@ read f v id nodes front lt are =
 pub least_time-requires-clause-chosen : goal.least_time-requires-clause-chosen
 least_time-requires-clause-chosen c =
     let r : IsRead c.args.forest.now c.args.self.now c.combination-nodes.result.now = read c.args.forest.now c.args.self.now c.args.id c.combination-nodes.result.now
-        c.requires.frontier c.requires.within (λ x at. some_if (slice_get c.args.self.now.combinations c.args.id) _ x c.combination-nodes.ensures at) in
+    c.requires.frontier c.requires.within (λ x at. some_if (slice_get c.args.self.now.combinations c.args.id) _ x c.combination-nodes.ensures at) in
     subst (λ (d : ℕ). AreChosen d c.all.result.now c.combination-nodes.result.now) (sym (ap (λ (v : FrontierView). v.deadline) c.self.view_is))
     (subst (λ (p : List (List ℕ)). AreChosen c.args.self.now.deadline p c.combination-nodes.result.now) (sym c.all.ensures.value) r.chosen)
 
 pub least_time-requires-clause-few : goal.least_time-requires-clause-few
 least_time-requires-clause-few c =
     let r : IsRead c.args.forest.now c.args.self.now c.combination-nodes.result.now = read c.args.forest.now c.args.self.now c.args.id c.combination-nodes.result.now
-        c.requires.frontier c.requires.within (λ x at. some_if (slice_get c.args.self.now.combinations c.args.id) _ x c.combination-nodes.ensures at) in
+    c.requires.frontier c.requires.within (λ x at. some_if (slice_get c.args.self.now.combinations c.args.id) _ x c.combination-nodes.ensures at) in
     let w : length c.self.inside.roots.items ≡ length c.args.self.now.roots = ap (λ (v : FrontierView). length v.roots) c.self.view_is in
     let e : length c.combination-nodes.result.now ≡ length c.args.self.now.roots = r.wide in
     omega (arith, c.self.invariant.0)
@@ -46,13 +46,13 @@ least_time-requires-clause-few c =
 pub choose_place-requires-clause-nodes : goal.choose_place-requires-clause-nodes
 choose_place-requires-clause-nodes c =
     let r : IsRead c.args.forest.now c.args.self.now c.combination-nodes.result.now = read c.args.forest.now c.args.self.now c.args.id c.combination-nodes.result.now
-        c.requires.frontier c.requires.within (λ x at. some_if (slice_get c.args.self.now.combinations c.args.id) _ x c.combination-nodes.ensures at) in
+    c.requires.frontier c.requires.within (λ x at. some_if (slice_get c.args.self.now.combinations c.args.id) _ x c.combination-nodes.ensures at) in
     chosen_nodes c.args.forest.now c.requires.frontier.forest c.args.self.now.deadline c.combination-nodes.result.now r.chosen
 
 pub choose_place-requires-clause-few : goal.choose_place-requires-clause-few
 choose_place-requires-clause-few c =
     let r : IsRead c.args.forest.now c.args.self.now c.combination-nodes.result.now = read c.args.forest.now c.args.self.now c.args.id c.combination-nodes.result.now
-        c.requires.frontier c.requires.within (λ x at. some_if (slice_get c.args.self.now.combinations c.args.id) _ x c.combination-nodes.ensures at) in
+    c.requires.frontier c.requires.within (λ x at. some_if (slice_get c.args.self.now.combinations c.args.id) _ x c.combination-nodes.ensures at) in
     let w : length c.self.inside.roots.items ≡ length c.args.self.now.roots = ap (λ (v : FrontierView). length v.roots) c.self.view_is in
     let e : length c.combination-nodes.result.now ≡ length c.args.self.now.roots = r.wide in
     omega (arith, c.self.invariant.0)
@@ -61,10 +61,10 @@ pub returns-in-Some-choose_place : goal.returns-in-Some-choose_place
 returns-in-Some-choose_place c x at =
     let same : c.combination-nodes.result.now ≡ x.nodes = some_if (slice_get c.args.self.now.combinations c.args.id) _ x c.combination-nodes.ensures at in
     let place : IsSplitPlace c.args.forest.now c.combination-nodes.result.now (Some c.in-Some-choose_place.place) = subst
-        (λ o. IsSplitPlace c.args.forest.now c.combination-nodes.result.now o) c.in-Some-choose_place.is c.choose_place.ensures in
+    (λ o. IsSplitPlace c.args.forest.now c.combination-nodes.result.now o) c.in-Some-choose_place.is c.choose_place.ensures in
     let none : NonePasses (setting_of c.args.forest.now c.args.self.now) c.combination-nodes.result.now =
     λ time p. c.in-None.ensures time
     (subst (λ (v : FrontierView). Passes v.wcet v.deadline c.all.result.now c.combination-nodes.result.now time) (sym c.self.view_is)
     (subst (λ (pool : List (List ℕ)). Passes c.args.self.now.wcet c.args.self.now.deadline pool c.combination-nodes.result.now time) (sym c.all.ensures.value) p)) in
     subst (λ (l : List ℕ). (c.args.id ≡ c.args.id) × NonePasses (setting_of c.args.forest.now c.args.self.now) l
-        × IsSplitPlace c.args.forest.now l (Some c.in-Some-choose_place.place)) same (refl, none, place)
+    × IsSplitPlace c.args.forest.now l (Some c.in-Some-choose_place.place)) same (refl, none, place)

@@ -28,9 +28,9 @@ pub slice_bounds-result-end : goal.slice_bounds-result-end
 slice_bounds-result-end c =
     let w : ℕ = length c.self.inside.roots.items in
     let n : length c.self.inside.states.items ≡ length c.args.self.now.combinations = sym (length_combinations w c.self.inside.nodes.items c.self.inside.states.items)
-        ∙ ap (λ (v : FrontierView). length v.combinations) c.self.view_is in
+    ∙ ap (λ (v : FrontierView). length v.combinations) c.self.view_is in
     let r : c.args.id * c.len-width.result + c.len-width.result ≤ length c.self.inside.nodes.items = row w c.len-width.result c.self.inside.nodes.items
-        c.self.inside.states.items c.args.id (omega (arith, c.self.inside.roots.ok.0, c.len-width.ensures)) c.self.invariant.4 (omega (arith, c.requires)) in
+    c.self.inside.states.items c.args.id (omega (arith, c.self.inside.roots.ok.0, c.len-width.ensures)) c.self.invariant.4 (omega (arith, c.requires)) in
     subst (λ (xs : List ℕ). c.args.id * c.len-width.result + c.len-width.result ≤ length xs) (sym c.deref.ensures.value) r
 
 pub returns : goal.returns
@@ -39,4 +39,4 @@ returns c =
     if_some (slice_get c.args.self.now.combinations c.args.id) _ (λ x at.
     ap (λ xs. take (c.args.id * c.len-width.result + c.len-width.result - c.args.id * c.len-width.result) (drop (c.args.id * c.len-width.result) xs)) c.deref.ensures.value
     ∙ part_is w c.len-width.result c.self.inside.nodes.items c.self.inside.states.items c.args.id x (omega (arith, c.self.inside.roots.ok.0, c.len-width.ensures))
-        (ap (λ (v : FrontierView). slice_get v.combinations c.args.id) c.self.view_is ∙ at))
+    (ap (λ (v : FrontierView). slice_get v.combinations c.args.id) c.self.view_is ∙ at))

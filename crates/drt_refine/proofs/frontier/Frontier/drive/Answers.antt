@@ -6,8 +6,11 @@ pub loop-reply-init : goal.loop-reply-init
 loop-reply-init c = (c.requires.frontier, drives_start c.args.forest.now c.args.worker c.args.self.now)
 
 pub loop-reply-preserved : goal.loop-reply-preserved
-loop-reply-preserved c = (c.turn-reply.ensures.frontier, drives_on c.args.forest.now c.args.worker c.args.self.now c.loop-reply.self c.turn-reply.new.self
-    c.loop-reply.invariant.1 c.turn-reply.ensures.turn.drives)
+loop-reply-preserved c = (
+  c.turn-reply.ensures.frontier,
+  drives_on c.args.forest.now c.args.worker c.args.self.now c.loop-reply.self c.turn-reply.new.self
+      c.loop-reply.invariant.1 c.turn-reply.ensures.turn.drives,
+)
 
 pub returns-then-ends-clause-drives : goal.returns-then-ends-clause-drives
 returns-then-ends-clause-drives c = drives_on c.args.forest.now c.args.worker c.args.self.now c.loop-reply.self c.turn-reply.new.self c.loop-reply.invariant.1 c.turn-reply.ensures.turn.drives
@@ -15,5 +18,5 @@ returns-then-ends-clause-drives c = drives_on c.args.forest.now c.args.worker c.
 pub returns-then-ends-clause-eager : goal.returns-then-ends-clause-eager
 returns-then-ends-clause-eager c h =
     let all : DrivesFrontier c.args.forest.now c.args.worker c.args.self.now c.turn-reply.new.self = drives_on c.args.forest.now c.args.worker c.args.self.now
-        c.loop-reply.self c.turn-reply.new.self c.loop-reply.invariant.1 c.turn-reply.ensures.turn.drives in
+    c.loop-reply.self c.turn-reply.new.self c.loop-reply.invariant.1 c.turn-reply.ensures.turn.drives in
     drives_eager c.args.forest.now c.args.worker c.args.self.now c.turn-reply.new.self c.requires.frontier all h

@@ -24,20 +24,29 @@ invariant_of-self c =
     let ls : length c.take.new.self.items ≡ length states = ap length c.take.ensures.items ∙ length_set states c.args.id (Taken c.args.worker) in
     let pw : length c.take.new.self.items * w ≡ length states * w = ap (λ n. n * w) ls in
     let pe : length (places is_taken_combination c.take.new.self.items) ≡ length (places is_taken_combination (set states c.args.id (Taken c.args.worker))) = ap
-        (λ l. length (places is_taken_combination l)) c.take.ensures.items in
+    (λ l. length (places is_taken_combination l)) c.take.ensures.items in
     let pl : length (places is_taken_combination (set states c.args.id (Taken c.args.worker))) ≤ length (places is_taken_combination states) + 1 = places_set
-        is_taken_combination states c.args.id (Taken c.args.worker) in
-    let m : length c.push_within.new.items.items ≡ length c.self.inside.log.items + 1 = ap length c.push_within.ensures.items ∙ length-append c.self.inside.log.items (_ ∷ []) in
-    (c.self.invariant.0, c.self.invariant.1, c.self.invariant.2, omega (arith, c.requires.room), c.self.invariant.4
-        ∙ sym pw, omega (arith, c.self.invariant.5), omega (arith, c.self.invariant.6, c.take.ensures.room), c.self.invariant.7, omega
-        (arith, c.self.invariant.8, c.push_within.ensures.capacity))
+    is_taken_combination states c.args.id (Taken c.args.worker) in
+    let m : length c.push_within.new.items.items ≡ length c.self.inside.log.items + 1 = ap length c.push_within.ensures.items ∙ length-append c.self.inside.log.items (_ ∷ []) in (
+      c.self.invariant.0,
+      c.self.invariant.1,
+      c.self.invariant.2,
+      omega (arith, c.requires.room),
+      c.self.invariant.4
+          ∙ sym pw,
+      omega (arith, c.self.invariant.5),
+      omega (arith, c.self.invariant.6, c.take.ensures.room),
+      c.self.invariant.7,
+      omega
+          (arith, c.self.invariant.8, c.push_within.ensures.capacity),
+    )
 
 pub returns : goal.returns
 returns c =
     let states : List CombinationState = c.self.inside.states.items in
     let w : ℕ = length c.self.inside.roots.items in
     moved_by c.self.inside.roots.items c.self.inside.wcet c.self.inside.deadline c.self.inside.budget (combinations_of w c.self.inside.nodes.items states)
-        c.self.inside.log.items c.args.self.now c.self.view_is
+    c.self.inside.log.items c.args.self.now c.self.view_is
     (λ cs. changed c.args.id (with_state (Taken c.args.worker)) cs) (record { worker = c.args.worker; step = Take })
-        (combinations_of w c.self.inside.nodes.items c.take.new.self.items) c.push_within.new.items.items
+    (combinations_of w c.self.inside.nodes.items c.take.new.self.items) c.push_within.new.items.items
     (ap (λ l. combinations_of w c.self.inside.nodes.items l) c.take.ensures.items ∙ combinations_set w c.self.inside.nodes.items states c.args.id (Taken c.args.worker)) c.push_within.ensures.items

@@ -32,35 +32,35 @@ read states combinations id s h at = ap is_taken_combination (same_Some s h.comb
 pub at-requires : goal.at-requires
 at-requires c =
     let h : Holding c.self.inside.states.items c.args.self.now.combinations c.args.id = holding (length c.self.inside.roots.items) c.self.inside.nodes.items
-        c.self.inside.states.items c.args.self.now.combinations c.args.id (ap (λ (v : FrontierView). v.combinations) c.self.view_is) c.requires in
+    c.self.inside.states.items c.args.self.now.combinations c.args.id (ap (λ (v : FrontierView). v.combinations) c.self.view_is) c.requires in
     slice_get_within c.self.inside.states.items c.args.id h.combination.state h.state
 
 pub unreachable-requires : goal.unreachable-requires
 unreachable-requires c =
     let h : Holding c.self.inside.states.items c.args.self.now.combinations c.args.id = holding (length c.self.inside.roots.items) c.self.inside.nodes.items
-        c.self.inside.states.items c.args.self.now.combinations c.args.id (ap (λ (v : FrontierView). v.combinations) c.self.view_is) c.requires in
+    c.self.inside.states.items c.args.self.now.combinations c.args.id (ap (λ (v : FrontierView). v.combinations) c.self.view_is) c.requires in
     absurd (clash (is_taken_combination c.at.result) (read c.self.inside.states.items c.args.self.now.combinations c.args.id c.at.result h c.at.ensures) (ap is_taken_combination c.in-Pending.is))
 
 pub unreachable-requires-in-Passed : goal.unreachable-requires-in-Passed
 unreachable-requires-in-Passed c =
     let h : Holding c.self.inside.states.items c.args.self.now.combinations c.args.id = holding (length c.self.inside.roots.items) c.self.inside.nodes.items
-        c.self.inside.states.items c.args.self.now.combinations c.args.id (ap (λ (v : FrontierView). v.combinations) c.self.view_is) c.requires in
+    c.self.inside.states.items c.args.self.now.combinations c.args.id (ap (λ (v : FrontierView). v.combinations) c.self.view_is) c.requires in
     absurd (clash (is_taken_combination c.at.result) (read c.self.inside.states.items c.args.self.now.combinations c.args.id c.at.result h c.at.ensures) (ap is_taken_combination c.in-Passed.is))
 
 pub unreachable-requires-in-Split : goal.unreachable-requires-in-Split
 unreachable-requires-in-Split c =
     let h : Holding c.self.inside.states.items c.args.self.now.combinations c.args.id = holding (length c.self.inside.roots.items) c.self.inside.nodes.items
-        c.self.inside.states.items c.args.self.now.combinations c.args.id (ap (λ (v : FrontierView). v.combinations) c.self.view_is) c.requires in
+    c.self.inside.states.items c.args.self.now.combinations c.args.id (ap (λ (v : FrontierView). v.combinations) c.self.view_is) c.requires in
     absurd (clash (is_taken_combination c.at.result) (read c.self.inside.states.items c.args.self.now.combinations c.args.id c.at.result h c.at.ensures) (ap is_taken_combination c.in-Split.is))
 
 pub unreachable-requires-in-Failed : goal.unreachable-requires-in-Failed
 unreachable-requires-in-Failed c =
     let h : Holding c.self.inside.states.items c.args.self.now.combinations c.args.id = holding (length c.self.inside.roots.items) c.self.inside.nodes.items
-        c.self.inside.states.items c.args.self.now.combinations c.args.id (ap (λ (v : FrontierView). v.combinations) c.self.view_is) c.requires in
+    c.self.inside.states.items c.args.self.now.combinations c.args.id (ap (λ (v : FrontierView). v.combinations) c.self.view_is) c.requires in
     absurd (clash (is_taken_combination c.at.result) (read c.self.inside.states.items c.args.self.now.combinations c.args.id c.at.result h c.at.ensures) (ap is_taken_combination c.in-Failed.is))
 
 pub returns : goal.returns
 returns c y here =
     let h : Holding c.self.inside.states.items c.args.self.now.combinations c.args.id = holding (length c.self.inside.roots.items) c.self.inside.nodes.items
-        c.self.inside.states.items c.args.self.now.combinations c.args.id (ap (λ (v : FrontierView). v.combinations) c.self.view_is) c.requires in
+    c.self.inside.states.items c.args.self.now.combinations c.args.id (ap (λ (v : FrontierView). v.combinations) c.self.view_is) c.requires in
     ap (λ (x : Combination). x.state) (same_Some y h.combination (sym here ∙ h.at)) ∙ (same_Some h.combination.state c.at.result (sym h.state ∙ c.at.ensures) ∙ c.in-Taken.is)

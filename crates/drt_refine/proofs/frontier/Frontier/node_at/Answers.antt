@@ -27,10 +27,10 @@ pub index-requires : goal.index-requires
 index-requires c =
     let w : ℕ = length c.self.inside.roots.items in
     let at : slice_get (combinations_of w c.self.inside.nodes.items c.self.inside.states.items) c.args.id ≡ Some c.requires.0 = ap
-        (λ (v : FrontierView). slice_get v.combinations c.args.id) c.self.view_is ∙ c.requires.2 in
+    (λ (v : FrontierView). slice_get v.combinations c.args.id) c.self.view_is ∙ c.requires.2 in
     let wide : length c.requires.0.nodes ≡ w = c.requires.3 ∙ sym (ap (λ (v : FrontierView). length v.roots) c.self.view_is) in
     let n : NodeAt w c.self.inside.nodes.items c.args.id c.args.place c.requires.0 = at_place w c.self.inside.nodes.items c.self.inside.states.items c.args.id
-        c.args.place c.requires.1 c.requires.0 c.self.invariant.4 at wide c.requires.4 in
+    c.args.place c.requires.1 c.requires.0 c.self.invariant.4 at wide c.requires.4 in
     let we : c.len.result ≡ w = omega (arith, c.self.inside.roots.ok.0, c.len.ensures) in
     let inside : c.args.id * w + c.args.place < length c.self.inside.nodes.items = n.inside in
     subst (λ (n : ℕ). c.args.id * n + c.args.place < vec_len c.self.inside.nodes) (sym we) (omega (arith, c.self.inside.nodes.ok.0))
@@ -40,13 +40,13 @@ returns c y h =
     let w : ℕ = length c.self.inside.roots.items in
     let nodes : List ℕ = c.self.inside.nodes.items in
     let at : slice_get (combinations_of w nodes c.self.inside.states.items) c.args.id ≡ Some c.requires.0 = ap (λ (v : FrontierView). slice_get v.combinations c.args.id)
-        c.self.view_is ∙ c.requires.2 in
+    c.self.view_is ∙ c.requires.2 in
     let wide : length c.requires.0.nodes ≡ w = c.requires.3 ∙ sym (ap (λ (v : FrontierView). length v.roots) c.self.view_is) in
     let in_row : c.args.place < length c.requires.0.nodes = slice_get_within c.requires.0.nodes c.args.place c.requires.1 c.requires.4 in
     let n : NodeAt w nodes c.args.id c.args.place c.requires.0 = at_place w nodes c.self.inside.states.items c.args.id c.args.place c.requires.1 c.requires.0 c.self.invariant.4 at wide c.requires.4 in
     let we : c.len.result ≡ w = omega (arith, c.self.inside.roots.ok.0, c.len.ensures) in
     let here : slice_get nodes (c.args.id * w + c.args.place) ≡ Some c.index.result.now = slice_get_read nodes (length nodes) (c.args.id * w + c.args.place)
-        c.index.result.now refl n.inside (c.index.ensures ∙ ap (λ m. slice_index_or nodes (c.args.id * m + c.args.place) c.index.result.now) we) in
+    c.index.result.now refl n.inside (c.index.ensures ∙ ap (λ m. slice_index_or nodes (c.args.id * m + c.args.place) c.index.result.now) we) in
     let got : slice_get c.requires.0.nodes c.args.place ≡ Some c.index.result.now = ap (λ l. slice_get l c.args.place) n.nodes_are
-        ∙ at_part w (c.args.id * w) c.args.place c.index.result.now nodes (omega arith) here in
+    ∙ at_part w (c.args.id * w) c.args.place c.index.result.now nodes (omega arith) here in
     ap (λ (z : Combination). slice_get z.nodes c.args.place) (same_Some y c.requires.0 (sym h ∙ c.requires.2)) ∙ got

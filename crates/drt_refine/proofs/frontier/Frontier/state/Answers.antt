@@ -21,5 +21,5 @@ returns c =
     if_some (slice_get c.args.self.now.combinations c.args.id) _ (λ x at.
     let a : CombinationAt (length c.self.inside.roots.items) c.self.inside.nodes.items c.self.inside.states.items c.args.id x
     = combination_at (length c.self.inside.roots.items) c.self.inside.nodes.items c.self.inside.states.items c.args.id x
-        (ap (λ (v : FrontierView). slice_get v.combinations c.args.id) c.self.view_is ∙ at) in
+    (ap (λ (v : FrontierView). slice_get v.combinations c.args.id) c.self.view_is ∙ at) in
     same_Some c.at.result x.state (sym c.at.ensures ∙ a.state_at))

@@ -16,22 +16,22 @@ apply-requires-clause-can c = take_can (setting_of c.args.forest.now c.args.self
 pub choose_step-step-requires-clause-within : goal.choose_step-step-requires-clause-within
 choose_step-step-requires-clause-within c =
     let f : Found is_combination_taken c.args.self.now.combinations c.in-Some.id = found is_combination_taken c.args.self.now.combinations c.in-Some.id
-        (sym c.first_taken.ensures.value ∙ c.in-Some.is) in
+    (sym c.first_taken.ensures.value ∙ c.in-Some.is) in
     slice_get_within c.args.self.now.combinations c.in-Some.id f.item f.at
 
 pub apply-requires-in-Some-clause-can : goal.apply-requires-in-Some-clause-can
 apply-requires-in-Some-clause-can c =
     let f : Found is_combination_taken c.args.self.now.combinations c.in-Some.id = found is_combination_taken c.args.self.now.combinations c.in-Some.id
-        (sym c.first_taken.ensures.value ∙ c.in-Some.is) in
+    (sym c.first_taken.ensures.value ∙ c.in-Some.is) in
     settle_can (setting_of c.args.forest.now c.args.self.now) (state_of c.args.self.now) c.holder-holder.result c.in-Some.id f.item f.at
-        (c.holder-holder.ensures f.item f.at) c.choose_step-step.result (c.choose_step-step.ensures f.item f.at)
+    (c.holder-holder.ensures f.item f.at) c.choose_step-step.result (c.choose_step-step.ensures f.item f.at)
 
 pub returns-in-None-clause-turn : goal.returns-in-None-clause-turn
 returns-in-None-clause-turn c =
     let none : first is_combination_taken c.args.self.now.combinations ≡ None = sym c.first_taken.ensures.value ∙ c.in-None.is in
     turn_of c.args.forest.now c.args.worker c.args.self.now c.args.worker Take c.apply.new.self c.apply.result c.first_taken.ensures.within
     (take_can (setting_of c.args.forest.now c.args.self.now) (state_of c.args.self.now) c.args.worker none)
-        (take_eager (setting_of c.args.forest.now c.args.self.now) (state_of c.args.self.now) c.args.worker) (λ e. (refl, none)) none c.apply.ensures.step
+    (take_eager (setting_of c.args.forest.now c.args.self.now) (state_of c.args.self.now) c.args.worker) (λ e. (refl, none)) none c.apply.ensures.step
 
 pub returns-in-Some-clause-turn : goal.returns-in-Some-clause-turn
 returns-in-Some-clause-turn c =

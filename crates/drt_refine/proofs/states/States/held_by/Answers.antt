@@ -24,7 +24,7 @@ pub index-requires : goal.index-requires
 index-requires c =
     let here : (slice_get c.self.inside.taken.items c.loop-j.j ≡ Some c.index-id.result.now) × (c.index-id.result.now < length c.self.inside.items.items) =
     at_place c.self.inside.items.items c.self.inside.taken.items c.loop-j.j (length c.self.inside.taken.items) c.index-id.result.now c.self.invariant.0.taken_are refl
-        (omega (arith, c.len-j-end.ensures, c.self.inside.taken.ok.0, c.loop-j-test.true)) c.index-id.ensures in
+    (omega (arith, c.len-j-end.ensures, c.self.inside.taken.ok.0, c.loop-j-test.true)) c.index-id.ensures in
     omega (arith, here.1, c.self.inside.items.ok.0)
 
 pub returns-then-is_held : goal.returns-then-is_held

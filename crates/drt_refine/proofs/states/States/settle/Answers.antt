@@ -16,7 +16,7 @@ invariant_of-self c =
     let l : length (set items c.args.id c.args.state) ≡ length items = length_set items c.args.id c.args.state in (
       subst (λ (xs : List ℕ). AreSorted (set items c.args.id c.args.state) c.self.inside.next xs (Some c.args.id)) (sym c.forget.ensures.items)
           (settle_failed items c.self.inside.next c.self.inside.taken.items c.self.inside.failed c.self.invariant.0 c.args.id c.requires.taken.0 c.args.state at
-              c.requires.taken.2 c.requires.settled.0 c.requires.settled.1 (sym c.has_failed.ensures ∙ c.if-has_failed.true) none),
+          c.requires.taken.2 c.requires.settled.0 c.requires.settled.1 (sym c.has_failed.ensures ∙ c.if-has_failed.true) none),
       omega (arith, c.self.invariant.1),
       c.self.invariant.2,
       omega (arith, c.self.invariant.3),
@@ -30,7 +30,7 @@ invariant_of-self-else-has_failed c =
     let l : length (set items c.args.id c.args.state) ≡ length items = length_set items c.args.id c.args.state in (
       subst (λ (xs : List ℕ). AreSorted (set items c.args.id c.args.state) c.self.inside.next xs c.self.inside.failed) (sym c.forget.ensures.items)
           (settle_unfailed items c.self.inside.next c.self.inside.taken.items c.self.inside.failed c.self.invariant.0 c.args.id c.requires.taken.0 c.args.state at
-              c.requires.taken.2 c.requires.settled.0 c.requires.settled.1 (sym c.has_failed.ensures ∙ c.if-has_failed.false)),
+          c.requires.taken.2 c.requires.settled.0 c.requires.settled.1 (sym c.has_failed.ensures ∙ c.if-has_failed.false)),
       omega (arith, c.self.invariant.1),
       c.self.invariant.2,
       omega (arith, c.self.invariant.3),

@@ -18,7 +18,7 @@ pub push_within-requires : goal.push_within-requires
 push_within-requires c =
     let h : first is_pending_combination c.self.inside.items.items ≡ Some c.args.id = ap (λ (v : CombinationStock). first is_pending_combination v.items) c.self.view_is ∙ c.requires in
     let room : length c.self.inside.taken.items + 1 ≤ length c.self.inside.items.items = take_room c.self.inside.items.items c.self.inside.next c.self.inside.taken.items
-        c.self.inside.failed c.self.invariant.0 c.args.id c.args.worker h in
+    c.self.inside.failed c.self.invariant.0 c.args.id c.args.worker h in
     omega (arith, c.self.inside.taken.ok.0, c.self.invariant.1, c.self.invariant.4, room)
 
 pub invariant_of-self : goal.invariant_of-self

@@ -12,6 +12,6 @@ returns c =
     let h = c.pop.ensures in
     let len : length (heap_items c.self.inside.heap) ≡ heap_len c.self.inside.heap = omega arith in
     let same : IfNone c.pop.result ((new ≡ old) × (old.items ≡ [])) = popped_none old new c.pop.result (heap_len c.self.inside.heap)
-        (heap_len c.pop.new.self ≡ heap_len c.self.inside.heap) len h.none h.unchanged h.capacity in
+    (heap_len c.pop.new.self ≡ heap_len c.self.inside.heap) len h.none h.unchanged h.capacity in
     subst (λ (held : HeldKeys). MatchOption c.pop.result ((new ≡ held) × (held.items ≡ [])) (λ r. IsPopped held new r.0)) c.self.view_is
     (popped old new c.pop.result c.self.invariant h.top h.permutation h.heap_order h.capacity same)

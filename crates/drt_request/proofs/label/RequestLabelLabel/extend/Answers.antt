@@ -13,6 +13,6 @@ invariant_of-result c =
     let within : c.args.self.now.offset < length c.args.self.now.values = grind (arith, nat_tests, c.requires.extendable) in
     let limits : AreValuesWithinLimits c.self.inside.offset xs = subst (λ (ys : List ℕ). AreValuesWithinLimits c.self.inside.offset ys) (sym c.deref.ensures) c.self.invariant.0 in
     let kept : AreValuesWithinLimits (c.self.inside.offset + c.args.sep) _ = subst (λ (ys : List ℕ). AreValuesWithinLimits (c.self.inside.offset + c.args.sep) ys)
-        (sym (c.in_ok-new.ensures.ok ∙ c.in_ok-steps.ensures))
+    (sym (c.in_ok-new.ensures.ok ∙ c.in_ok-steps.ensures))
     (extended_limits c.self.inside.offset c.args.sep c.args.wcet xs limits (omega arith) c.requires.sep.0 c.requires.sep.1 c.requires.wcet.1) in
     (kept, subst (λ (ys : List ℕ). c.at.result ≡ value_at ys (length ys)) (sym c.in_ok-new.ensures.ok) (c.at.ensures.value ∙ ap (λ n. value_at c.in_ok-steps.steps n) c.bound.ensures.value))

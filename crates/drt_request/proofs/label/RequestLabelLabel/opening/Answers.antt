@@ -13,4 +13,4 @@ invariant_of-result c =
     let le : c.args.wcet ≤ most_time = c.requires.wcet.1 in
     let from : 1 ≤ c.args.bound = grind (arith, nat_tests, c.requires.bound) in
     subst (λ (xs : List ℕ). AreValuesWithinLimits 0 xs × (c.args.wcet ≡ value_at xs (length xs))) (sym (c.in_ok-new.ensures.ok ∙ c.in_ok-flat.ensures))
-        (opening_limits c.args.bound c.args.wcet few le, flat_total c.args.bound c.args.wcet from)
+    (opening_limits c.args.bound c.args.wcet few le, flat_total c.args.bound c.args.wcet from)

@@ -14,4 +14,4 @@ returns-clause-read c =
 pub returns-clause-stops : goal.returns-clause-stops
 returns-clause-stops c =
     line_left (count_kind c.args.word.now c.requires) c.args.text.now.rest.now c.in_ok-line.line.now c.in_ok-line.others.now c.count_of.result c.taken.result
-        c.in_ok-line.ensures c.count_of.ensures c.taken.ensures.stops
+    c.in_ok-line.ensures c.count_of.ensures c.taken.ensures.stops

@@ -14,14 +14,14 @@ pub returns-in_err-task : goal.returns-in_err-task
 returns-in_err-task c =
     rw c.from_residual-in_err-task.ensures
     (pair_first decimal IsNumber (pair_form decimal (pair_form decimal decimal)) (AreBoth IsNumber (AreBoth IsTick IsTick)) number_no_space c.args.bytes.now
-        c.cut_field.result.0.now c.in_ok-rest.rest.now
+    c.cut_field.result.0.now c.in_ok-rest.rest.now
     c.cut_field.ensures.field (rw c.in_ok-rest.was at c.cut_field.ensures.rest) c.in_err-task.ensures)
 
 pub returns-in_err-three_of : goal.returns-in_err-three_of
 returns-in_err-three_of c =
     rw c.from_residual-in_err-three_of.ensures
     (pair_second decimal IsNumber (pair_form decimal (pair_form decimal decimal)) (AreBoth IsNumber (AreBoth IsTick IsTick)) number_no_space c.args.bytes.now
-        c.cut_field.result.0.now c.in_ok-rest.rest.now
+    c.cut_field.result.0.now c.in_ok-rest.rest.now
     c.cut_field.ensures.field (rw c.in_ok-rest.was at c.cut_field.ensures.rest) c.in_err-three_of.ensures)
 
 pub returns : goal.returns

@@ -10,4 +10,4 @@ pub returns : goal.returns
 returns g c =
     subst (λ v. IsLogged v c.apply-reply.new.self c.args.step c.apply-reply.result) c.self.view_is
     (step_logged g.L.Label.algebra _ _ _ _ _ c.self.invariant.1 c.apply-reply.ensures
-        (g.met.L.Label g.world.𝓛 g.world.𝓜 g.world.𝓡 ((λ s x. x), (λ x. x), (λ x. x), λ x. x)).laws c.keeps_its_run.ensures (ap (λ s. s.budget) c.apply-reply.ensures.setting))
+    (g.met.L.Label g.world.𝓛 g.world.𝓜 g.world.𝓡 ((λ s x. x), (λ x. x), (λ x. x), λ x. x)).laws c.keeps_its_run.ensures (ap (λ s. s.budget) c.apply-reply.ensures.setting))

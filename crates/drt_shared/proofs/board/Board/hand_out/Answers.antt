@@ -17,7 +17,7 @@ returns-clause-label g c =
     let label = subst (λ o. IfSome o (λ h. c.hand_out-label.result ≡ h.node.label)) can.1 c.hand_out-label.ensures.label in
     subst (λ v. IsLabel g.L.Label.algebra (setting_of v) c.hand_out-label.result) c.self.view_is
     (handed_label g.L.Label.algebra (g.met.L.Label g.world.𝓛 g.world.𝓜 g.world.𝓡 ((λ s x. x), (λ x. x), (λ x. x), λ x. x)).laws c.self.inside.table c.self.invariant.0
-        c.args.node c.hand_out-label.result can label)
+    c.args.node c.hand_out-label.result can label)
 
 pub hand_out-label-requires-after_bounds : goal.hand_out-label-requires-after_bounds
 hand_out-label-requires-after_bounds g c κs within = subst (λ v. CanHandOut v c.args.node) (sym c.self.view_is) c.requires

@@ -11,24 +11,24 @@ place_of-requires c = subst (λ (js : List Jump). AreFrom 1 js) (sym c.jumps_of.
 pub level_after-requires : goal.level_after-requires
 level_after-requires c =
     place_within c.self.inside.bound c.self.inside.base c.self.inside.rises.value.jumps.items c.self.inside.rises.value.levels.items c.jumps_of.result.now
-        c.levels_of.result.now c.args.t c.place_of.result c.self.invariant.0 c.jumps_of.ensures c.levels_of.ensures c.place_of.ensures
+    c.levels_of.result.now c.args.t c.place_of.result c.self.invariant.0 c.jumps_of.ensures c.levels_of.ensures c.place_of.ensures
 
 pub returns-clause-value : goal.returns-clause-value
 returns-clause-value c =
     c.level_after.ensures ∙ value_seen c.self.inside.bound c.self.inside.base c.self.inside.rises.value.jumps.items c.self.inside.rises.value.levels.items c.args.self.now
-        c.jumps_of.result.now c.levels_of.result.now c.args.t c.place_of.result c.self.view_is c.self.invariant.0 c.requires.from c.requires.to c.jumps_of.ensures
-        c.levels_of.ensures c.place_of.ensures
+    c.jumps_of.result.now c.levels_of.result.now c.args.t c.place_of.result c.self.view_is c.self.invariant.0 c.requires.from c.requires.to c.jumps_of.ensures
+    c.levels_of.ensures c.place_of.ensures
 
 pub returns-clause-small : goal.returns-clause-small
 returns-clause-small c =
     let e : c.level_after.result ≡ value_at c.args.self.now c.args.t = returns-clause-value c in
     let small : value_at c.args.self.now c.args.t ≤ 1000000000000 = value_small c.self.inside.bound c.self.inside.base c.self.inside.rises.value.jumps.items
-        c.args.self.now c.args.t c.self.view_is c.self.invariant.0.kept c.requires.from c.requires.to in
+    c.args.self.now c.args.t c.self.view_is c.self.invariant.0.kept c.requires.from c.requires.to in
     omega arith
 
 pub returns-clause-rises : goal.returns-clause-rises
 returns-clause-rises c s le to =
     let e : c.level_after.result ≡ value_at c.args.self.now c.args.t = returns-clause-value c in
     let up : value_at c.args.self.now c.args.t ≤ value_at c.args.self.now s = value_rises c.self.inside.bound c.self.inside.base c.self.inside.rises.value.jumps.items
-        c.args.self.now c.args.t s c.self.view_is c.requires.from le to in
+    c.args.self.now c.args.t s c.self.view_is c.requires.from le to in
     omega arith

@@ -12,7 +12,7 @@ returns c =
     let own : List Jump = c.self.inside.rises.value.jumps.items in
     let other : List Jump = c.other.inside.rises.value.jumps.items in
     let same : c.self.inside.bound ≡ c.other.inside.bound = long c.self.inside.bound p own c.args.self.now c.self.view_is
-        ∙ (c.requires ∙ sym (long c.other.inside.bound q other c.args.other.now c.other.view_is)) in
+    ∙ (c.requires ∙ sym (long c.other.inside.bound q other c.args.other.now c.other.view_is)) in
     let yes : c.stays_above.result ≡ true → (t : ℕ) → q + risen other t ≤ p + risen own t =
     subst (λ (xs : List Jump). c.stays_above.result ≡ true → (t : ℕ) → q + risen other t ≤ p + risen xs t) c.jumps_of.ensures
     (subst (λ (ys : List Jump). c.stays_above.result ≡ true → (t : ℕ) → q + risen ys t ≤ p + risen c.jumps_of.result.now t) c.jumps_of-2.ensures c.stays_above.ensures.above) in

@@ -71,7 +71,7 @@ from_marked-requires-2-clause-kept c =
     let lt : c.args.offset < n = c.if-offset-self.false in
     let small : value_at c.args.self.now n + c.args.work ≤ 1000000000000 = c.requires n lt (omega arith) in
     let e : c.in_ok-jumps-2.jumps.items ≡ up_to c.args.offset js ++ new ∷ past c.args.offset js = c.in_ok-jumps-2.ensures
-        ∙ ap (λ ks. up_to c.args.offset ks ++ new ∷ past c.args.offset ks) c.jumps_of-own.ensures in
+    ∙ ap (λ ks. up_to c.args.offset ks ++ new ∷ past c.args.offset ks) c.jumps_of-own.ensures in
     subst (λ (ks : List Jump). AreKept n c.self.inside.base ks) (sym e) (placed_kept n c.self.inside.base js new c.self.invariant.0.kept (omega arith) (omega (arith, c.if-offset-eq0.false)) lt)
 
 -- the function with one more jump in its place
@@ -122,7 +122,7 @@ from_rises-requires-clause-kept c =
     let lt : c.args.offset < n = c.if-offset-self.false in
     let small : value_at c.args.self.now n + c.args.work ≤ 1000000000000 = c.requires n lt (omega arith) in
     let last : IsPlaceReached js (c.args.offset + 1) (length js) = subst (λ (ks : List Jump). IsPlaceReached ks (c.args.offset + 1) (length ks)) c.jumps_of-own.ensures
-        (c.is_reached.ensures c.if-is_reached.true) in
+    (c.is_reached.ensures c.if-is_reached.true) in
     let e : c.in_ok-rises.rises.jumps.items ≡ js ++ new ∷ [] = c.in_ok-rises.ensures.jumps ∙ ap (λ (r : Rises). r.jumps.items ++ new ∷ []) c.deref.ensures in
     record {
       kept = subst (λ (ks : List Jump). AreKept n c.self.inside.base ks) (sym e)

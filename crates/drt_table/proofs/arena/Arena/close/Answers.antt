@@ -23,9 +23,9 @@ returns g c =
     let at : slice_get v.nodes c.args.id ≡ Some c.index_mut.result.now =
     node_at IsHeld v _ c.self.view_is c.args.id c.requires c.index_mut.result.now c.index_mut.ensures.value in
     let nodes : slice_set v.nodes c.args.id c.close.new.self ≡ changed c.args.id close_node v.nodes = ap (λ x. set v.nodes c.args.id x) c.close.ensures
-        ∙ sym (changed_set close_node v.nodes c.args.id c.index_mut.result.now at) in
+    ∙ sym (changed_set close_node v.nodes c.args.id c.index_mut.result.now at) in
     subst (λ (x : Stock _). HasNodes x (record { nodes = slice_set v.nodes c.args.id c.close.new.self; vertices = v.vertices; room = v.room })
-        (changed c.args.id close_node x.nodes)) c.self.view_is (record { nodes_are = nodes; vertices = refl; room = refl })
+    (changed c.args.id close_node x.nodes)) c.self.view_is (record { nodes_are = nodes; vertices = refl; room = refl })
 
 pub index_mut-requires : goal.index_mut-requires
 index_mut-requires g c =
@@ -41,14 +41,14 @@ invariant_of-self g c =
     let at : slice_get v.nodes c.args.id ≡ Some c.index_mut.result.now =
     node_at IsHeld v _ c.self.view_is c.args.id c.requires c.index_mut.result.now c.index_mut.ensures.value in
     let nodes : slice_set v.nodes c.args.id c.close.new.self ≡ changed c.args.id close_node v.nodes = ap (λ x. set v.nodes c.args.id x) c.close.ensures
-        ∙ sym (changed_set close_node v.nodes c.args.id c.index_mut.result.now at) in
+    ∙ sym (changed_set close_node v.nodes c.args.id c.index_mut.result.now at) in
     let old = c.self.invariant in
     let x : Held _ = c.index_mut.result.now in
     let taken_x : IsTrue (is_taken x.node) = node_has IsHeld v _ c.self.view_is c.args.id c.requires x c.index_mut.ensures.value in
     let arranged = change_arranged close_node c.args.id v.nodes g.L.Label.algebra c.self.inside.links.items c.self.inside.heads.items (heap_items c.self.inside.queue)
-        c.self.inside.taken.items x at (λ h. (refl, refl)) close_calms close_keeps (λ t. absurd (taken_not_pending x.node taken_x t)) old.0 in
+    c.self.inside.taken.items x at (λ h. (refl, refl)) close_calms close_keeps (λ t. absurd (taken_not_pending x.node taken_x t)) old.0 in
     let held : AreHeld (changed c.args.id close_node v.nodes) c.forget.new.taken.items = forget_held (changed c.args.id close_node v.nodes) c.self.inside.taken.items
-        c.forget.new.taken.items c.args.id (close_node x) (changed_at c.args.id close_node v.nodes x at) refl c.forget.ensures.others c.forget.ensures.within arranged.held in
+    c.forget.new.taken.items c.args.id (close_node x) (changed_at c.args.id close_node v.nodes x at) refl c.forget.ensures.others c.forget.ensures.within arranged.held in
     let all : AreArranged g.L.Label.algebra (changed c.args.id close_node v.nodes) c.self.inside.links.items c.self.inside.heads.items (heap_items c.self.inside.queue) c.forget.new.taken.items =
     record { linked = arranged.linked; waiting = arranged.waiting; fresh = arranged.fresh; order = arranged.order; held = held } in
     let count : length (slice_set v.nodes c.args.id c.close.new.self) ≡ length v.nodes = length-set v.nodes c.args.id c.close.new.self in

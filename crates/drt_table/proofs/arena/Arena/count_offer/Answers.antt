@@ -29,9 +29,9 @@ returns g c =
     let at : slice_get v.nodes c.args.id ≡ Some c.index_mut.result.now =
     node_at MayOffer v _ c.self.view_is c.args.id c.requires c.index_mut.result.now c.index_mut.ensures.value in
     let nodes : slice_set v.nodes c.args.id c.count_offer.new.self ≡ changed c.args.id count_offer v.nodes = ap (λ x. set v.nodes c.args.id x) c.count_offer.ensures
-        ∙ sym (changed_set count_offer v.nodes c.args.id c.index_mut.result.now at) in
+    ∙ sym (changed_set count_offer v.nodes c.args.id c.index_mut.result.now at) in
     subst (λ (x : Stock _). HasNodes x (record { nodes = slice_set v.nodes c.args.id c.count_offer.new.self; vertices = v.vertices; room = v.room })
-        (changed c.args.id count_offer x.nodes)) c.self.view_is (record { nodes_are = nodes; vertices = refl; room = refl })
+    (changed c.args.id count_offer x.nodes)) c.self.view_is (record { nodes_are = nodes; vertices = refl; room = refl })
 
 pub invariant_of-self : goal.invariant_of-self
 invariant_of-self g c =
@@ -39,11 +39,11 @@ invariant_of-self g c =
     let at : slice_get v.nodes c.args.id ≡ Some c.index_mut.result.now =
     node_at MayOffer v _ c.self.view_is c.args.id c.requires c.index_mut.result.now c.index_mut.ensures.value in
     let nodes : slice_set v.nodes c.args.id c.count_offer.new.self ≡ changed c.args.id count_offer v.nodes = ap (λ x. set v.nodes c.args.id x) c.count_offer.ensures
-        ∙ sym (changed_set count_offer v.nodes c.args.id c.index_mut.result.now at) in
+    ∙ sym (changed_set count_offer v.nodes c.args.id c.index_mut.result.now at) in
     let old = c.self.invariant in
     let calms : Calms count_offer = record { label = λ h. refl; pending = λ h t. t } in
     let arranged = change_arranged count_offer c.args.id v.nodes g.L.Label.algebra c.self.inside.links.items c.self.inside.heads.items (heap_items c.self.inside.queue)
-        c.self.inside.taken.items c.index_mut.result.now at (λ h. (refl, refl)) calms (λ h t. t) (λ t. t) old.0 in
+    c.self.inside.taken.items c.index_mut.result.now at (λ h. (refl, refl)) calms (λ h t. t) (λ t. t) old.0 in
     let count : length (slice_set v.nodes c.args.id c.count_offer.new.self) ≡ length v.nodes = length-set v.nodes c.args.id c.count_offer.new.self in
     let shelf = change_samples g.L.Label.algebra (length c.self.inside.heads.items) c.self.inside.room c.self.inside.columns count_offer c.args.id v.nodes _ nodes (λ h. refl) old.7 in (
       subst (λ xs. AreArranged g.L.Label.algebra xs c.self.inside.links.items c.self.inside.heads.items (heap_items c.self.inside.queue) c.self.inside.taken.items)

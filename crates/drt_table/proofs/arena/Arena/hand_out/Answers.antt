@@ -35,9 +35,9 @@ returns-clause-nodes g c =
     let at : slice_get v.nodes c.args.id ≡ Some c.index_mut.result.now =
     node_at IsWhole v _ c.self.view_is c.args.id (c.requires.0, c.requires.1, (c.requires.2, c.requires.3)) c.index_mut.result.now c.index_mut.ensures.value in
     let nodes : slice_set v.nodes c.args.id c.hand_out.new.self ≡ changed c.args.id hand_out v.nodes = ap (λ x. set v.nodes c.args.id x) c.hand_out.ensures.node
-        ∙ sym (changed_set hand_out v.nodes c.args.id c.index_mut.result.now at) in
+    ∙ sym (changed_set hand_out v.nodes c.args.id c.index_mut.result.now at) in
     subst (λ (x : Stock _). HasNodes x (record { nodes = slice_set v.nodes c.args.id c.hand_out.new.self; vertices = v.vertices; room = v.room })
-        (changed c.args.id hand_out x.nodes)) c.self.view_is (record { nodes_are = nodes; vertices = refl; room = refl })
+    (changed c.args.id hand_out x.nodes)) c.self.view_is (record { nodes_are = nodes; vertices = refl; room = refl })
 
 pub returns-clause-label : goal.returns-clause-label
 returns-clause-label g c =
@@ -45,7 +45,7 @@ returns-clause-label g c =
     let at : slice_get v.nodes c.args.id ≡ Some c.index_mut.result.now =
     node_at IsWhole v _ c.self.view_is c.args.id (c.requires.0, c.requires.1, (c.requires.2, c.requires.3)) c.index_mut.result.now c.index_mut.ensures.value in
     subst (λ (x : Stock _). IfSome (slice_get x.nodes c.args.id) (λ h. c.hand_out.result ≡ h.node.label)) c.self.view_is
-        (subst (λ o. IfSome o (λ h. c.hand_out.result ≡ h.node.label)) (sym at) c.hand_out.ensures.label)
+    (subst (λ o. IfSome o (λ h. c.hand_out.result ≡ h.node.label)) (sym at) c.hand_out.ensures.label)
 
 pub invariant_of-self : goal.invariant_of-self
 invariant_of-self g c =
@@ -53,11 +53,11 @@ invariant_of-self g c =
     let at : slice_get v.nodes c.args.id ≡ Some c.index_mut.result.now =
     node_at IsWhole v _ c.self.view_is c.args.id (c.requires.0, c.requires.1, (c.requires.2, c.requires.3)) c.index_mut.result.now c.index_mut.ensures.value in
     let nodes : slice_set v.nodes c.args.id c.hand_out.new.self ≡ changed c.args.id hand_out v.nodes = ap (λ x. set v.nodes c.args.id x) c.hand_out.ensures.node
-        ∙ sym (changed_set hand_out v.nodes c.args.id c.index_mut.result.now at) in
+    ∙ sym (changed_set hand_out v.nodes c.args.id c.index_mut.result.now at) in
     let old = c.self.invariant in
     let calms : Calms hand_out = record { label = λ h. refl; pending = λ h t. t } in
     let arranged = change_arranged hand_out c.args.id v.nodes g.L.Label.algebra c.self.inside.links.items c.self.inside.heads.items (heap_items c.self.inside.queue)
-        c.self.inside.taken.items c.index_mut.result.now at (λ h. (refl, refl)) calms (λ h t. t) (λ t. t) old.0 in
+    c.self.inside.taken.items c.index_mut.result.now at (λ h. (refl, refl)) calms (λ h t. t) (λ t. t) old.0 in
     let count : length (slice_set v.nodes c.args.id c.hand_out.new.self) ≡ length v.nodes = length-set v.nodes c.args.id c.hand_out.new.self in
     let shelf = change_samples g.L.Label.algebra (length c.self.inside.heads.items) c.self.inside.room c.self.inside.columns hand_out c.args.id v.nodes _ nodes (λ h. refl) old.7 in (
       subst (λ xs. AreArranged g.L.Label.algebra xs c.self.inside.links.items c.self.inside.heads.items (heap_items c.self.inside.queue) c.self.inside.taken.items)

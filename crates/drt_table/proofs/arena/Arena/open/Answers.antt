@@ -20,7 +20,7 @@ push_node-requires-clause-last g c κs within =
     let a = g.L.Label.algebra in
     let v : Stock _ = record { nodes = c.self.inside.nodes.items; vertices = length c.self.inside.heads.items; room = c.self.inside.room } in
     let alone : AllOf (λ (h : Held _). kept_at a (a.vertex c.args.twin) h.node ≡ false) v.nodes = subst
-        (λ (x : Stock _). AllOf (λ (h : Held _). kept_at a (a.vertex c.args.twin) h.node ≡ false) x.nodes) (sym c.self.view_is) c.requires.alone in
+    (λ (x : Stock _). AllOf (λ (h : Held _). kept_at a (a.vertex c.args.twin) h.node ≡ false) x.nodes) (sym c.self.view_is) c.requires.alone in
     subst (λ (z : Held _). IsPlace a v.nodes (a.vertex z.node.label) (a.offset z.node.label) None) (sym c.fresh.ensures) (place_alone a v.nodes (a.vertex c.args.twin) (a.offset c.args.twin) alone)
 
 pub admit-requires-clause-waiting : goal.admit-requires-clause-waiting
@@ -53,7 +53,7 @@ invariant_of-self g c =
       held = subst (λ xs. AreHeld xs taken) (sym c.push_node.ensures.nodes) (still_held nodes (nodes ++ z ∷ []) taken (push_held nodes z idle) old.0.held);
     } in
     let heads : take c.self.inside.heads.len (c.push_node.new.heads ++ drop (length c.push_node.new.heads) c.self.inside.heads.items) ≡
-        c.push_node.new.heads = written_back c.self.inside.heads.len c.push_node.new.heads (drop (length c.push_node.new.heads) c.self.inside.heads.items) (search rules) in
+    c.push_node.new.heads = written_back c.self.inside.heads.len c.push_node.new.heads (drop (length c.push_node.new.heads) c.self.inside.heads.items) (search rules) in
     let more : length c.push_node.new.nodes.items ≡ length nodes + 1 = ap length c.push_node.ensures.nodes ∙ length_push nodes z in
     let seen : length c.as_slice.result.now ≡ length c.push_node.new.nodes.items = ap length c.as_slice.ensures.value in
     let long : length c.push_node.new.heads ≡ c.self.inside.heads.len = search rules in

@@ -21,23 +21,23 @@ pub returns : goal.returns
 returns g c =
     let v : Stock _ = record { nodes = c.self.inside.nodes.items; vertices = length c.self.inside.heads.items; room = c.self.inside.room } in
     let can : Some c.args.id ≡ earliest (λ (h : Held _). is_node_pending h.node) (held_offset g.L.Label.algebra) v.nodes = subst
-        (λ (x : Stock _). Some c.args.id ≡ earliest (λ (h : Held _). is_node_pending h.node) (held_offset g.L.Label.algebra) x.nodes) (sym c.self.view_is) c.requires in
+    (λ (x : Stock _). Some c.args.id ≡ earliest (λ (h : Held _). is_node_pending h.node) (held_offset g.L.Label.algebra) x.nodes) (sym c.self.view_is) c.requires in
     let lt : c.args.id < length
-        v.nodes = (let f : Earliest (λ (h : Held _). is_node_pending h.node) (held_offset g.L.Label.algebra) v.nodes c.args.id = found_earliest
-        (λ (h : Held _). is_node_pending h.node) (held_offset g.L.Label.algebra) v.nodes c.args.id (sym can) in slice_get_within v.nodes c.args.id f.item f.at) in
+    v.nodes = (let f : Earliest (λ (h : Held _). is_node_pending h.node) (held_offset g.L.Label.algebra) v.nodes c.args.id = found_earliest
+    (λ (h : Held _). is_node_pending h.node) (held_offset g.L.Label.algebra) v.nodes c.args.id (sym can) in slice_get_within v.nodes c.args.id f.item f.at) in
     let at : slice_get v.nodes c.args.id ≡ Some c.index_mut.result.now = slice_get_read v.nodes (length v.nodes) c.args.id c.index_mut.result.now refl lt c.index_mut.ensures.value in
     let nodes : slice_set v.nodes c.args.id c.take_by.new.self ≡ changed c.args.id (take_by c.args.worker) v.nodes = ap (λ x. set v.nodes c.args.id x) c.take_by.ensures
-        ∙ sym (changed_set (take_by c.args.worker) v.nodes c.args.id c.index_mut.result.now at) in
+    ∙ sym (changed_set (take_by c.args.worker) v.nodes c.args.id c.index_mut.result.now at) in
     subst (λ (x : Stock _). HasNodes x (record { nodes = slice_set v.nodes c.args.id c.take_by.new.self; vertices = v.vertices; room = v.room })
-        (changed c.args.id (take_by c.args.worker) x.nodes)) c.self.view_is (record { nodes_are = nodes; vertices = refl; room = refl })
+    (changed c.args.id (take_by c.args.worker) x.nodes)) c.self.view_is (record { nodes_are = nodes; vertices = refl; room = refl })
 
 pub index_mut-requires : goal.index_mut-requires
 index_mut-requires g c =
     let v : Stock _ = record { nodes = c.self.inside.nodes.items; vertices = length c.self.inside.heads.items; room = c.self.inside.room } in
     let can : Some c.args.id ≡ earliest (λ (h : Held _). is_node_pending h.node) (held_offset g.L.Label.algebra) v.nodes = subst
-        (λ (x : Stock _). Some c.args.id ≡ earliest (λ (h : Held _). is_node_pending h.node) (held_offset g.L.Label.algebra) x.nodes) (sym c.self.view_is) c.requires in
+    (λ (x : Stock _). Some c.args.id ≡ earliest (λ (h : Held _). is_node_pending h.node) (held_offset g.L.Label.algebra) x.nodes) (sym c.self.view_is) c.requires in
     let f : Earliest (λ (h : Held _). is_node_pending h.node) (held_offset g.L.Label.algebra) v.nodes c.args.id = found_earliest (λ (h : Held _). is_node_pending h.node)
-        (held_offset g.L.Label.algebra) v.nodes c.args.id (sym can) in
+    (held_offset g.L.Label.algebra) v.nodes c.args.id (sym can) in
     let lt : c.args.id < length v.nodes = slice_get_within v.nodes c.args.id f.item f.at in
     omega (arith, lt, c.self.inside.nodes.ok.0)
 
@@ -45,9 +45,9 @@ pub take_by-requires-after_bounds : goal.take_by-requires-after_bounds
 take_by-requires-after_bounds g c κs within =
     let v : Stock _ = record { nodes = c.self.inside.nodes.items; vertices = length c.self.inside.heads.items; room = c.self.inside.room } in
     let can : Some c.args.id ≡ earliest (λ (h : Held _). is_node_pending h.node) (held_offset g.L.Label.algebra) v.nodes = subst
-        (λ (x : Stock _). Some c.args.id ≡ earliest (λ (h : Held _). is_node_pending h.node) (held_offset g.L.Label.algebra) x.nodes) (sym c.self.view_is) c.requires in
+    (λ (x : Stock _). Some c.args.id ≡ earliest (λ (h : Held _). is_node_pending h.node) (held_offset g.L.Label.algebra) x.nodes) (sym c.self.view_is) c.requires in
     let f : Earliest (λ (h : Held _). is_node_pending h.node) (held_offset g.L.Label.algebra) v.nodes c.args.id = found_earliest (λ (h : Held _). is_node_pending h.node)
-        (held_offset g.L.Label.algebra) v.nodes c.args.id (sym can) in
+    (held_offset g.L.Label.algebra) v.nodes c.args.id (sym can) in
     let lt : c.args.id < length v.nodes = slice_get_within v.nodes c.args.id f.item f.at in
     let at : slice_get v.nodes c.args.id ≡ Some c.index_mut.result.now = slice_get_read v.nodes (length v.nodes) c.args.id c.index_mut.result.now refl lt c.index_mut.ensures.value in
     ap (λ (h : Held _). is_node_pending h.node) (same_Some c.index_mut.result.now f.item (sym at ∙ f.at)) ∙ f.passes
@@ -56,13 +56,13 @@ pub pop_ticket-requires-clause-some : goal.pop_ticket-requires-clause-some
 pop_ticket-requires-clause-some g c =
     let v : Stock _ = record { nodes = c.self.inside.nodes.items; vertices = length c.self.inside.heads.items; room = c.self.inside.room } in
     let can : Some c.args.id ≡ earliest (λ (h : Held _). is_node_pending h.node) (held_offset g.L.Label.algebra) v.nodes = subst
-        (λ (x : Stock _). Some c.args.id ≡ earliest (λ (h : Held _). is_node_pending h.node) (held_offset g.L.Label.algebra) x.nodes) (sym c.self.view_is) c.requires in
+    (λ (x : Stock _). Some c.args.id ≡ earliest (λ (h : Held _). is_node_pending h.node) (held_offset g.L.Label.algebra) x.nodes) (sym c.self.view_is) c.requires in
     let lt : c.args.id < length
-        v.nodes = (let f : Earliest (λ (h : Held _). is_node_pending h.node) (held_offset g.L.Label.algebra) v.nodes c.args.id = found_earliest
-        (λ (h : Held _). is_node_pending h.node) (held_offset g.L.Label.algebra) v.nodes c.args.id (sym can) in slice_get_within v.nodes c.args.id f.item f.at) in
+    v.nodes = (let f : Earliest (λ (h : Held _). is_node_pending h.node) (held_offset g.L.Label.algebra) v.nodes c.args.id = found_earliest
+    (λ (h : Held _). is_node_pending h.node) (held_offset g.L.Label.algebra) v.nodes c.args.id (sym can) in slice_get_within v.nodes c.args.id f.item f.at) in
     let at : slice_get v.nodes c.args.id ≡ Some c.index_mut.result.now = slice_get_read v.nodes (length v.nodes) c.args.id c.index_mut.result.now refl lt c.index_mut.ensures.value in
     let nodes : slice_set v.nodes c.args.id c.take_by.new.self ≡ changed c.args.id (take_by c.args.worker) v.nodes = ap (λ x. set v.nodes c.args.id x) c.take_by.ensures
-        ∙ sym (changed_set (take_by c.args.worker) v.nodes c.args.id c.index_mut.result.now at) in
+    ∙ sym (changed_set (take_by c.args.worker) v.nodes c.args.id c.index_mut.result.now at) in
     let old = c.self.invariant in
     let a = g.L.Label.algebra in
     let w : ℕ = c.args.worker in
@@ -78,13 +78,13 @@ pub refresh-requires-clause-waiting : goal.refresh-requires-clause-waiting
 refresh-requires-clause-waiting g c κs within =
     let v : Stock _ = record { nodes = c.self.inside.nodes.items; vertices = length c.self.inside.heads.items; room = c.self.inside.room } in
     let can : Some c.args.id ≡ earliest (λ (h : Held _). is_node_pending h.node) (held_offset g.L.Label.algebra) v.nodes = subst
-        (λ (x : Stock _). Some c.args.id ≡ earliest (λ (h : Held _). is_node_pending h.node) (held_offset g.L.Label.algebra) x.nodes) (sym c.self.view_is) c.requires in
+    (λ (x : Stock _). Some c.args.id ≡ earliest (λ (h : Held _). is_node_pending h.node) (held_offset g.L.Label.algebra) x.nodes) (sym c.self.view_is) c.requires in
     let lt : c.args.id < length
-        v.nodes = (let f : Earliest (λ (h : Held _). is_node_pending h.node) (held_offset g.L.Label.algebra) v.nodes c.args.id = found_earliest
-        (λ (h : Held _). is_node_pending h.node) (held_offset g.L.Label.algebra) v.nodes c.args.id (sym can) in slice_get_within v.nodes c.args.id f.item f.at) in
+    v.nodes = (let f : Earliest (λ (h : Held _). is_node_pending h.node) (held_offset g.L.Label.algebra) v.nodes c.args.id = found_earliest
+    (λ (h : Held _). is_node_pending h.node) (held_offset g.L.Label.algebra) v.nodes c.args.id (sym can) in slice_get_within v.nodes c.args.id f.item f.at) in
     let at : slice_get v.nodes c.args.id ≡ Some c.index_mut.result.now = slice_get_read v.nodes (length v.nodes) c.args.id c.index_mut.result.now refl lt c.index_mut.ensures.value in
     let nodes : slice_set v.nodes c.args.id c.take_by.new.self ≡ changed c.args.id (take_by c.args.worker) v.nodes = ap (λ x. set v.nodes c.args.id x) c.take_by.ensures
-        ∙ sym (changed_set (take_by c.args.worker) v.nodes c.args.id c.index_mut.result.now at) in
+    ∙ sym (changed_set (take_by c.args.worker) v.nodes c.args.id c.index_mut.result.now at) in
     let old = c.self.invariant in
     let a = g.L.Label.algebra in
     let w : ℕ = c.args.worker in
@@ -96,7 +96,7 @@ refresh-requires-clause-waiting g c κs within =
     let t : Ticket = c.pop_ticket.ensures.first.0 in
     let at_t : slice_get tickets 0 ≡ Some t = c.pop_ticket.ensures.first.1 in
     let first : Some t.0.1 ≡ earliest (λ (h : Held _). is_node_pending h.node) (held_offset a) v.nodes = first_is_next a v.nodes tickets old.0.waiting old.0.fresh t at_t
-        c.pop_ticket.ensures.first.2 in
+    c.pop_ticket.ensures.first.2 in
     subst (λ xs. AreWaiting a xs (heap_items c.pop_ticket.new.queue) (length xs)) (sym (c.as_slice.ensures.value ∙ nodes))
     (taken_waiting a v.nodes links heads tickets taken old.0 id w can (heap_items c.pop_ticket.new.queue) t at_t first c.pop_ticket.ensures.first.3)
 
@@ -104,13 +104,13 @@ pub invariant_of-self : goal.invariant_of-self
 invariant_of-self g c =
     let v : Stock _ = record { nodes = c.self.inside.nodes.items; vertices = length c.self.inside.heads.items; room = c.self.inside.room } in
     let can : Some c.args.id ≡ earliest (λ (h : Held _). is_node_pending h.node) (held_offset g.L.Label.algebra) v.nodes = subst
-        (λ (x : Stock _). Some c.args.id ≡ earliest (λ (h : Held _). is_node_pending h.node) (held_offset g.L.Label.algebra) x.nodes) (sym c.self.view_is) c.requires in
+    (λ (x : Stock _). Some c.args.id ≡ earliest (λ (h : Held _). is_node_pending h.node) (held_offset g.L.Label.algebra) x.nodes) (sym c.self.view_is) c.requires in
     let lt : c.args.id < length
-        v.nodes = (let f : Earliest (λ (h : Held _). is_node_pending h.node) (held_offset g.L.Label.algebra) v.nodes c.args.id = found_earliest
-        (λ (h : Held _). is_node_pending h.node) (held_offset g.L.Label.algebra) v.nodes c.args.id (sym can) in slice_get_within v.nodes c.args.id f.item f.at) in
+    v.nodes = (let f : Earliest (λ (h : Held _). is_node_pending h.node) (held_offset g.L.Label.algebra) v.nodes c.args.id = found_earliest
+    (λ (h : Held _). is_node_pending h.node) (held_offset g.L.Label.algebra) v.nodes c.args.id (sym can) in slice_get_within v.nodes c.args.id f.item f.at) in
     let at : slice_get v.nodes c.args.id ≡ Some c.index_mut.result.now = slice_get_read v.nodes (length v.nodes) c.args.id c.index_mut.result.now refl lt c.index_mut.ensures.value in
     let nodes : slice_set v.nodes c.args.id c.take_by.new.self ≡ changed c.args.id (take_by c.args.worker) v.nodes = ap (λ x. set v.nodes c.args.id x) c.take_by.ensures
-        ∙ sym (changed_set (take_by c.args.worker) v.nodes c.args.id c.index_mut.result.now at) in
+    ∙ sym (changed_set (take_by c.args.worker) v.nodes c.args.id c.index_mut.result.now at) in
     let old = c.self.invariant in
     let a = g.L.Label.algebra in
     let w : ℕ = c.args.worker in

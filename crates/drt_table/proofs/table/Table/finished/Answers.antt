@@ -14,10 +14,10 @@ returns-clause-finished g c =
     let v : View _ = record { graph = c.self.inside.graph; bound = c.self.inside.bound; budget = c.self.inside.budget; nodes = c.self.inside.arena.nodes; log = c.self.inside.log.items } in
     let is : IsTable a v = c.self.invariant.0 in
     let e : (is_none c.next-next.result && is_none c.holder-holder.result) ≡ is_finished a (setting_of v) (state_of v) = finished_is a v c.next-next.result
-        c.holder-holder.result c.next-next.ensures c.holder-holder.ensures in
+    c.holder-holder.result c.next-next.ensures c.holder-holder.ensures in
     let r : (c.is_none.result && c.is_none-2.result) ≡ is_finished a (setting_of v) (state_of v) = ap (λ x. x && c.is_none-2.result)
-        (none_result c.next-next.result c.is_none.result c.is_none.ensures)
-        ∙ (ap (λ x. is_none c.next-next.result && x) (none_result c.holder-holder.result c.is_none-2.result c.is_none-2.ensures) ∙ e) in
+    (none_result c.next-next.result c.is_none.result c.is_none.ensures)
+    ∙ (ap (λ x. is_none c.next-next.result && x) (none_result c.holder-holder.result c.is_none-2.result c.is_none-2.ensures) ∙ e) in
     subst (λ (x : View _). (c.is_none.result && c.is_none-2.result) ≡ is_finished a (setting_of x) (state_of x)) c.self.view_is r
 
 pub returns-clause-front : goal.returns-clause-front
@@ -27,8 +27,8 @@ returns-clause-front g c =
     let v : View _ = record { graph = c.self.inside.graph; bound = c.self.inside.bound; budget = c.self.inside.budget; nodes = c.self.inside.arena.nodes; log = c.self.inside.log.items } in
     let is : IsTable a v = c.self.invariant.0 in
     let e : (is_none c.next-next.result && is_none c.holder-holder.result) ≡ is_finished a (setting_of v) (state_of v) = finished_is a v c.next-next.result
-        c.holder-holder.result c.next-next.ensures c.holder-holder.ensures in
+    c.holder-holder.result c.next-next.ensures c.holder-holder.ensures in
     let r : (c.is_none.result && c.is_none-2.result) ≡ is_finished a (setting_of v) (state_of v) = ap (λ x. x && c.is_none-2.result)
-        (none_result c.next-next.result c.is_none.result c.is_none.ensures)
-        ∙ (ap (λ x. is_none c.next-next.result && x) (none_result c.holder-holder.result c.is_none-2.result c.is_none-2.ensures) ∙ e) in
+    (none_result c.next-next.result c.is_none.result c.is_none.ensures)
+    ∙ (ap (λ x. is_none c.next-next.result && x) (none_result c.holder-holder.result c.is_none-2.result c.is_none-2.ensures) ∙ e) in
     λ yes. subst (λ (x : View _). IsFront a (setting_of x) (state_of x).nodes) c.self.view_is (run_front a laws (setting_of v) is.bound (state_of v) (facts_of a laws v is) (sym r ∙ yes))

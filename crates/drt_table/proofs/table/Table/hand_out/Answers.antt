@@ -14,8 +14,8 @@ hand_out-requires-after_bounds g c κs within =
     let v : View _ = record { graph = c.self.inside.graph; bound = c.self.inside.bound; budget = c.self.inside.budget; nodes = c.self.inside.arena.nodes; log = c.self.inside.log.items } in
     let is : IsTable a v = c.self.invariant.0 in
     let can : (h : Held _) × (slice_get v.nodes c.args.id ≡ Some h) × IsTrue h.spare
-        × IsTrue (is_taken h.node) = subst (λ (x : View _). (h : Held _) × (slice_get x.nodes c.args.id ≡ Some h) × IsTrue h.spare × IsTrue (is_taken h.node))
-        (sym c.self.view_is) c.requires in
+    × IsTrue (is_taken h.node) = subst (λ (x : View _). (h : Held _) × (slice_get x.nodes c.args.id ≡ Some h) × IsTrue h.spare × IsTrue (is_taken h.node))
+    (sym c.self.view_is) c.requires in
     can
 
 pub invariant_of-self : goal.invariant_of-self
@@ -25,8 +25,8 @@ invariant_of-self g c =
     let v : View _ = record { graph = c.self.inside.graph; bound = c.self.inside.bound; budget = c.self.inside.budget; nodes = c.self.inside.arena.nodes; log = c.self.inside.log.items } in
     let is : IsTable a v = c.self.invariant.0 in
     let can : (h : Held _) × (slice_get v.nodes c.args.id ≡ Some h) × IsTrue h.spare
-        × IsTrue (is_taken h.node) = subst (λ (x : View _). (h : Held _) × (slice_get x.nodes c.args.id ≡ Some h) × IsTrue h.spare × IsTrue (is_taken h.node))
-        (sym c.self.view_is) c.requires in
+    × IsTrue (is_taken h.node) = subst (λ (x : View _). (h : Held _) × (slice_get x.nodes c.args.id ≡ Some h) × IsTrue h.spare × IsTrue (is_taken h.node))
+    (sym c.self.view_is) c.requires in
     let nodes : c.hand_out.new.self.nodes ≡ changed c.args.id hand_out v.nodes = c.hand_out.ensures.nodes.nodes_are in
     let new : View _ = record { graph = v.graph; bound = v.bound; budget = v.budget; nodes = c.hand_out.new.self.nodes; log = v.log } in (
       table_same_nodes a v new c.args.id is refl nodes refl,
@@ -43,8 +43,8 @@ returns-clause-nodes g c =
     let v : View _ = record { graph = c.self.inside.graph; bound = c.self.inside.bound; budget = c.self.inside.budget; nodes = c.self.inside.arena.nodes; log = c.self.inside.log.items } in
     let is : IsTable a v = c.self.invariant.0 in
     let can : (h : Held _) × (slice_get v.nodes c.args.id ≡ Some h) × IsTrue h.spare
-        × IsTrue (is_taken h.node) = subst (λ (x : View _). (h : Held _) × (slice_get x.nodes c.args.id ≡ Some h) × IsTrue h.spare × IsTrue (is_taken h.node))
-        (sym c.self.view_is) c.requires in
+    × IsTrue (is_taken h.node) = subst (λ (x : View _). (h : Held _) × (slice_get x.nodes c.args.id ≡ Some h) × IsTrue h.spare × IsTrue (is_taken h.node))
+    (sym c.self.view_is) c.requires in
     let nodes : c.hand_out.new.self.nodes ≡ changed c.args.id hand_out v.nodes = c.hand_out.ensures.nodes.nodes_are in
     let new : View _ = record { graph = v.graph; bound = v.bound; budget = v.budget; nodes = c.hand_out.new.self.nodes; log = v.log } in
     nodes ∙ ap (λ (x : View _). changed c.args.id hand_out x.nodes) c.self.view_is
@@ -56,8 +56,8 @@ returns-clause-label g c =
     let v : View _ = record { graph = c.self.inside.graph; bound = c.self.inside.bound; budget = c.self.inside.budget; nodes = c.self.inside.arena.nodes; log = c.self.inside.log.items } in
     let is : IsTable a v = c.self.invariant.0 in
     let can : (h : Held _) × (slice_get v.nodes c.args.id ≡ Some h) × IsTrue h.spare
-        × IsTrue (is_taken h.node) = subst (λ (x : View _). (h : Held _) × (slice_get x.nodes c.args.id ≡ Some h) × IsTrue h.spare × IsTrue (is_taken h.node))
-        (sym c.self.view_is) c.requires in
+    × IsTrue (is_taken h.node) = subst (λ (x : View _). (h : Held _) × (slice_get x.nodes c.args.id ≡ Some h) × IsTrue h.spare × IsTrue (is_taken h.node))
+    (sym c.self.view_is) c.requires in
     let nodes : c.hand_out.new.self.nodes ≡ changed c.args.id hand_out v.nodes = c.hand_out.ensures.nodes.nodes_are in
     let new : View _ = record { graph = v.graph; bound = v.bound; budget = v.budget; nodes = c.hand_out.new.self.nodes; log = v.log } in
     subst (λ (x : View _). IfSome (slice_get x.nodes c.args.id) (λ h. c.hand_out.result ≡ h.node.label)) c.self.view_is c.hand_out.ensures.label

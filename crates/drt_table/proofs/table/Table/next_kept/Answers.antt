@@ -12,5 +12,5 @@ next_kept-requires-after_bounds g c κs within =
 pub returns : goal.returns
 returns g c =
     subst (λ (x : View _). (n : NodeOf _) → slice_get (state_of x).nodes c.args.id ≡ Some n
-        → IsNextKept g.L.Label.algebra (state_of x).nodes (g.L.Label.algebra.vertex n.label) c.args.id n c.next_kept.result) c.self.view_is
+    → IsNextKept g.L.Label.algebra (state_of x).nodes (g.L.Label.algebra.vertex n.label) c.args.id n c.next_kept.result) c.self.view_is
     c.next_kept.ensures

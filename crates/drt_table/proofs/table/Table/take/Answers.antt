@@ -19,7 +19,7 @@ is_soon-soon-requires-clause-next g c κs within k e =
     let v : View _ = record { graph = c.self.inside.graph; bound = c.self.inside.bound; budget = c.self.inside.budget; nodes = c.self.inside.arena.nodes; log = c.self.inside.log.items } in
     let is : IsTable a v = c.self.invariant.0 in
     let f : Earliest (λ (h : Held _). is_node_pending h.node) (held_offset a) v.nodes k = found_earliest (λ (h : Held _). is_node_pending h.node) (held_offset a) v.nodes
-        k (sym c.next-next.ensures ∙ e) in
+    k (sym c.next-next.ensures ∙ e) in
     slice_get_within v.nodes k f.item f.at
 
 pub is_soon-soon-requires-clause-holder : goal.is_soon-soon-requires-clause-holder
@@ -39,8 +39,8 @@ returns-in-None g c =
     let is : IsTable a v = c.self.invariant.0 in
     let sep_is : unwrap_or c.self.inside.shortest (v.bound + 1) ≡ separation (setting_of v) = ap (λ o. unwrap_or o (v.bound + 1)) c.self.invariant.4 in
     let full : is_full a (setting_of v) (state_of v) ≡
-        c.reaches-full.result = (let n : length v.log ≡ c.len.result = omega (arith, c.len.ensures, c.self.inside.log.ok.0) in
-        ap (λ (m : ℕ). nat_le v.budget m) n ∙ sym c.reaches-full.ensures) in
+    c.reaches-full.result = (let n : length v.log ≡ c.len.result = omega (arith, c.len.ensures, c.self.inside.log.ok.0) in
+    ap (λ (m : ℕ). nat_le v.budget m) n ∙ sym c.reaches-full.ensures) in
     let f : Found-for-take a v c.next-next.result c.holder-holder.result c.reaches-full.result c.is_soon-soon.result c.choose-reply.result = record {
       next_is = c.next-next.ensures;
       holder_is = c.holder-holder.ensures;
@@ -59,8 +59,8 @@ returns-in-Some g c =
     let is : IsTable a v = c.self.invariant.0 in
     let sep_is : unwrap_or c.self.inside.shortest (v.bound + 1) ≡ separation (setting_of v) = ap (λ o. unwrap_or o (v.bound + 1)) c.self.invariant.4 in
     let full : is_full a (setting_of v) (state_of v) ≡
-        c.reaches-full.result = (let n : length v.log ≡ c.len.result = omega (arith, c.len.ensures, c.self.inside.log.ok.0) in
-        ap (λ (m : ℕ). nat_le v.budget m) n ∙ sym c.reaches-full.ensures) in
+    c.reaches-full.result = (let n : length v.log ≡ c.len.result = omega (arith, c.len.ensures, c.self.inside.log.ok.0) in
+    ap (λ (m : ℕ). nat_le v.budget m) n ∙ sym c.reaches-full.ensures) in
     let f : Found-for-take a v c.next-next.result c.holder-holder.result c.reaches-full.result c.is_soon-soon.result c.choose-reply.result = record {
       next_is = c.next-next.ensures;
       holder_is = c.holder-holder.ensures;
@@ -72,7 +72,7 @@ returns-in-Some g c =
     let not_full : c.reaches-full.result ≡ false = taken_room a v c.next-next.result c.holder-holder.result c.reaches-full.result c.is_soon-soon.result c.choose-reply.result c.in-Some.id f node_is in
     let new : View _ = record { graph = v.graph; bound = v.bound; budget = v.budget; nodes = c.take_by.new.self.nodes; log = c.push_within.new.items.items } in
     let step : IsTableStep a v new c.args.worker Take (Taken c.in-Some.id) = take_taken a v new c.args.worker c.in-Some.id c.next-next.result c.holder-holder.result
-        c.reaches-full.result c.is_soon-soon.result c.choose-reply.result f node_is refl c.take_by.ensures.nodes_are c.push_within.ensures.items in
+    c.reaches-full.result c.is_soon-soon.result c.choose-reply.result f node_is refl c.take_by.ensures.nodes_are c.push_within.ensures.items in
     subst (λ (x : View _). IsTableStep a x new c.args.worker Take (Taken c.in-Some.id)) c.self.view_is step
 
 pub invariant_of-self : goal.invariant_of-self
@@ -83,8 +83,8 @@ invariant_of-self g c =
     let is : IsTable a v = c.self.invariant.0 in
     let sep_is : unwrap_or c.self.inside.shortest (v.bound + 1) ≡ separation (setting_of v) = ap (λ o. unwrap_or o (v.bound + 1)) c.self.invariant.4 in
     let full : is_full a (setting_of v) (state_of v) ≡
-        c.reaches-full.result = (let n : length v.log ≡ c.len.result = omega (arith, c.len.ensures, c.self.inside.log.ok.0) in
-        ap (λ (m : ℕ). nat_le v.budget m) n ∙ sym c.reaches-full.ensures) in
+    c.reaches-full.result = (let n : length v.log ≡ c.len.result = omega (arith, c.len.ensures, c.self.inside.log.ok.0) in
+    ap (λ (m : ℕ). nat_le v.budget m) n ∙ sym c.reaches-full.ensures) in
     let f : Found-for-take a v c.next-next.result c.holder-holder.result c.reaches-full.result c.is_soon-soon.result c.choose-reply.result = record {
       next_is = c.next-next.ensures;
       holder_is = c.holder-holder.ensures;
@@ -96,7 +96,7 @@ invariant_of-self g c =
     let not_full : c.reaches-full.result ≡ false = taken_room a v c.next-next.result c.holder-holder.result c.reaches-full.result c.is_soon-soon.result c.choose-reply.result c.in-Some.id f node_is in
     let new : View _ = record { graph = v.graph; bound = v.bound; budget = v.budget; nodes = c.take_by.new.self.nodes; log = c.push_within.new.items.items } in
     let step : IsTableStep a v new c.args.worker Take (Taken c.in-Some.id) = take_taken a v new c.args.worker c.in-Some.id c.next-next.result c.holder-holder.result
-        c.reaches-full.result c.is_soon-soon.result c.choose-reply.result f node_is refl c.take_by.ensures.nodes_are c.push_within.ensures.items in
+    c.reaches-full.result c.is_soon-soon.result c.choose-reply.result f node_is refl c.take_by.ensures.nodes_are c.push_within.ensures.items in
     let can : CanApply a v c.args.worker Take = subst (λ (x : View _). CanApply a x c.args.worker Take) (sym c.self.view_is) c.requires in (
       table_more a v new c.args.worker Take (Taken c.in-Some.id) is can step c.push_within.ensures.items,
       c.take_by.ensures.vertices ∙ c.self.invariant.1,

@@ -65,11 +65,11 @@ returns-in_ok-twin-in-Some-clause-turn g c =
     let laws = (g.met.L.Label g.world.𝓛 g.world.𝓜 g.world.𝓡 ((λ s x. x), (λ x. x), (λ x. x), λ x. x)).laws in
     turn_offer g.L.Label.algebra laws _ _ c.self.invariant.0 c.self.view_is _ c.holder.ensures
     c.in-Some.id c.in-Some.is _ c.node-node.ensures _ _ c.vertex.ensures c.offered-edge.ensures _ c.out_degree.ensures c.if-edge-out_degree.true c.args.worker _
-        c.offer.new.self c.offer.result c.holder-holder.ensures c.offer.ensures
+    c.offer.new.self c.offer.result c.holder-holder.ensures c.offer.ensures
 
 pub returns-else-edge-out_degree-clause-turn : goal.returns-else-edge-out_degree-clause-turn
 returns-else-edge-out_degree-clause-turn g c =
     let laws = (g.met.L.Label g.world.𝓛 g.world.𝓜 g.world.𝓡 ((λ s x. x), (λ x. x), (λ x. x), λ x. x)).laws in
     turn_close g.L.Label.algebra laws _ _ c.self.invariant.0 c.self.view_is _ c.holder.ensures
     c.in-Some.id c.in-Some.is _ c.node-node.ensures _ _ c.vertex.ensures c.offered-edge.ensures _ c.out_degree.ensures c.if-edge-out_degree.false c.args.worker _
-        c.close.new.self c.close.result c.holder-holder.ensures c.close.ensures
+    c.close.new.self c.close.result c.holder-holder.ensures c.close.ensures

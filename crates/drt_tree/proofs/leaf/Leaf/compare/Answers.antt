@@ -11,7 +11,7 @@ returns-in-Equal c =
     let y : Leaf = c.args.other.now in
     let e : length x.steps ≡ length y.steps = sym c.bound.ensures.value ∙ (c.if-bound.false ∙ c.bound-2.ensures.value) in
     let w : c.cmp-in-Equal.result ≡ slice_cmp nat_cmp x.walk y.walk = c.cmp-in-Equal.ensures
-        ∙ (ap (λ z. slice_cmp nat_cmp z c.as_slice-in-Equal.result.now) c.as_slice.ensures ∙ ap (λ z. slice_cmp nat_cmp x.walk z) c.as_slice-in-Equal.ensures) in
+    ∙ (ap (λ z. slice_cmp nat_cmp z c.as_slice-in-Equal.result.now) c.as_slice.ensures ∙ ap (λ z. slice_cmp nat_cmp x.walk z) c.as_slice-in-Equal.ensures) in
     w ∙ (ap (λ r. ordering_then r (slice_cmp nat_cmp x.walk y.walk)) c.in-Equal.ensures ∙ sym (key_cmp x y e))
 
 pub returns-in_default : goal.returns-in_default

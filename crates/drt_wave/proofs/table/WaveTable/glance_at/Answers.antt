@@ -29,7 +29,7 @@ returns-clause-kept c =
     let f = found c.args.self.now c.args.seat.now c.args.vertex c.index-as_slice-vertex.result c.index_mut.result.now c.as_slice.result.now c.requires.seat
     (vertex_inside c.args.self.now c.args.vertex c.requires.vertex) c.as_slice.ensures c.index-as_slice-vertex.is c.index_mut.ensures.value in
     with_kept c.args.seat.now c.args.vertex c.index_mut.result.now c.glance.new.seat f.at_seat
-        (subst (λ (w : LaneView LaneKey). c.index_mut.result.now.me.0.known ≤ w.known) (sym c.glance.ensures.learned.1) c.glance.ensures.learned.2)
+    (subst (λ (w : LaneView LaneKey). c.index_mut.result.now.me.0.known ≤ w.known) (sym c.glance.ensures.learned.1) c.glance.ensures.learned.2)
     (λ o x a. subst (λ (w : LaneView LaneKey). Among (o, x) w.raised) (sym c.glance.ensures.learned.1) a)
 
 pub returns-clause-same : goal.returns-clause-same

@@ -33,23 +33,23 @@ lanes-preserved c =
 pub returns-clause-seat : goal.returns-clause-seat
 returns-clause-seat c =
     let h = all_looked c.args.self.now c.args.wave c.args.seat.now c.lanes.seat c.lanes.v c.as_slice-lanes.result.now c.lanes.invariant c.as_slice-lanes.ensures
-        c.lanes.auto.v-end c.lanes-test.false in
+    c.lanes.auto.v-end c.lanes-test.false in
     all_is_of c.args.self.now c.args.wave c.args.seat.now c.lanes.seat c.requires.seat h
 
 pub returns-clause-kept : goal.returns-clause-kept
 returns-clause-kept c =
     let h = all_looked c.args.self.now c.args.wave c.args.seat.now c.lanes.seat c.lanes.v c.as_slice-lanes.result.now c.lanes.invariant c.as_slice-lanes.ensures
-        c.lanes.auto.v-end c.lanes-test.false in
+    c.lanes.auto.v-end c.lanes-test.false in
     all_kept c.args.self.now c.args.wave c.args.seat.now c.lanes.seat c.requires.seat h
 
 pub returns-clause-same : goal.returns-clause-same
 returns-clause-same c =
     let h = all_looked c.args.self.now c.args.wave c.args.seat.now c.lanes.seat c.lanes.v c.as_slice-lanes.result.now c.lanes.invariant c.as_slice-lanes.ensures
-        c.lanes.auto.v-end c.lanes-test.false in
+    c.lanes.auto.v-end c.lanes-test.false in
     all_same c.args.self.now c.args.wave c.args.seat.now c.lanes.seat c.requires.seat h
 
 pub returns-clause-known : goal.returns-clause-known
 returns-clause-known c =
     let h = all_looked c.args.self.now c.args.wave c.args.seat.now c.lanes.seat c.lanes.v c.as_slice-lanes.result.now c.lanes.invariant c.as_slice-lanes.ensures
-        c.lanes.auto.v-end c.lanes-test.false in
+    c.lanes.auto.v-end c.lanes-test.false in
     all_known c.args.self.now c.args.wave c.args.seat.now c.lanes.seat c.requires.seat h
