@@ -12,8 +12,8 @@ use Rattle.drt_sweep.specs.Dues.{sum_due}
 use Rattle.drt_rates.specs.Demands.{demands}
 use Rattle.drt_horizon.specs.Laws.{IsDue, AreDue, efforts_together}
 use Rattle.drt_graph.specs.FrontEntry.{due}
-use Rattle.drt_fronts.specs.LabelFronts.{IsLabelFront, AreLabelFronts}
-use Rattle.drt_fronts.proofs.WalkEntries.{walk_entry, walk_entry_is}
+use Rattle.drt_edf_fronts.specs.LabelFronts.{IsLabelFront, AreLabelFronts}
+use Rattle.drt_edf_fronts.proofs.WalkEntries.{walk_entry, walk_entry_is}
 
 most_here : (b : Bool) (w r n : ℕ) → b ≡ true → n ≤ w → n ≤ max (cond b w 0) r
 most_here true w r n e l = omega (arith, le-max_left w r)

@@ -14,7 +14,7 @@ use Rattle.drt_table.specs.declared.step.Entry.{Entry}
 use Rattle.drt_claims.specs.declared.evidence.Evidence.TheVariants.{EdfYes}
 use Rattle.drt_claims.specs.Claims.{graphs_of}
 use Rattle.drt_claims.specs.Ranges.{IsCounted, IsEvidenceInRange, IsInRangeFront}
-use Rattle.drt_fronts.specs.LabelFronts.{AreLabelFronts, AreDemandWalks}
+use Rattle.drt_edf_fronts.specs.LabelFronts.{AreLabelFronts, AreDemandWalks}
 use Rattle.drt_edf.specs.RatioClaims.{claims_of}
 use Rattle.drt_edf.specs.Searches.{IsSpentEdfSearch}
 use Rattle.drt_edf.specs.Spent.{IsSpentEdfTable}

@@ -6,7 +6,7 @@ use Rattle.drt_graph.specs.declared.front.FrontEntry.{FrontEntry}
 use Rattle.drt_sweep.specs.Dues.{sum_due}
 use Rattle.drt_rates.specs.Demands.{AreFronts, demands}
 use Rattle.drt_horizon.specs.Laws.{AreDue, efforts_together}
-use Rattle.drt_fronts.specs.LabelFronts.{IsLabelFront, AreLabelFronts, IsDemandWalk, AreDemandWalks}
+use Rattle.drt_edf_fronts.specs.LabelFronts.{IsLabelFront, AreLabelFronts, IsDemandWalk, AreDemandWalks}
 use Rattle.drt_edf.proofs.Suffixes.{due_walk}
 
 -- As many of two lists of one length.

@@ -30,10 +30,10 @@ use Rattle.drt_claims.specs.Fronts.{IsOrdered, HasOpenings, IsExtended, IsClosed
 use Rattle.drt_claims.specs.Ranges.{IsInRangeEntry}
 use Rattle.drt_claims.proofs.Accepting.{AreFrontClaims, yes_accepted}
 use Rattle.drt_edf.specs.Answers.{IsExactEdfYes}
-use Rattle.drt_fronts.specs.LabelFronts.{IsLabelFront, AreLabelFronts}
+use Rattle.drt_edf_fronts.specs.LabelFronts.{IsLabelFront, AreLabelFronts}
 use Rattle.drt_edf.specs.RatioClaims.{claims_of}
 use Rattle.drt_edf.specs.Walks.{IsWalkEntry, IsExactFront}
-use Rattle.drt_fronts.proofs.WalkEntries.{walk_entry, walk_entry_is}
+use Rattle.drt_edf_fronts.proofs.WalkEntries.{walk_entry, walk_entry_is}
 use Rattle.drt_edf.proofs.Covered.{all_within}
 use Rattle.drt_edf.proofs.Planned.{claims_kept, claims_below, planned_below}
 use Rattle.drt_edf.proofs.RatioClaims.{head_of, tail_of}

@@ -4,14 +4,14 @@ use Rattle.drt_model.specs.Digraph.{Digraph}
 use Rattle.drt_table.specs.declared.step.Entry.{Entry}
 use Rattle.drt_edf.specs.declared.searching.Searched.{Searched}
 use Rattle.drt_edf.specs.declared.searching.Searched.TheVariants.{Finished, Spent}
-use Rattle.drt_fronts.specs.declared.search.Ended.TheVariants as ended
+use Rattle.drt_edf_fronts.specs.declared.search.Ended.TheVariants as ended
 use Rattle.drt_edf.specs.declared.searching.FoundAhead.{FoundAhead}
 use Rattle.drt_edf.specs.declared.searching.FoundAhead.TheVariants.{Front, Left, Long}
 use Rattle.drt_claims.specs.Ranges.{IsCounted}
 use Rattle.drt_graph.specs.Graphs.{graph_of}
-use Rattle.drt_fronts.specs.Ends.{IsEnded, IsFull}
-use Rattle.drt_fronts.specs.declared.search.Ended.{Ended}
-use Rattle.drt_fronts.specs.LabelFronts.{AreLabelFronts}
+use Rattle.drt_edf_fronts.specs.Ends.{IsEnded, IsFull}
+use Rattle.drt_edf_fronts.specs.declared.search.Ended.{Ended}
+use Rattle.drt_edf_fronts.specs.LabelFronts.{AreLabelFronts}
 
 -- The search of the graph of number `task` spent the budget, by the steps of the log.
 abbrev pub IsSpentEdfSearch : List Digraph → ℕ → ℕ → ℕ → List Entry → Type 0

@@ -15,7 +15,7 @@ use Rattle.drt_horizon.specs.Laws.{latest}
 use Rattle.drt_horizon.specs.declared.answers.Over.TheVariants.{Spent}
 use Rattle.drt_claims.specs.Claims.{graphs_of}
 use Rattle.drt_edf.specs.Plans.{IsAboveOne, HasHorizon}
-pub use Rattle.drt_fronts.specs.Needs.{table_need, HasWaveTable}
+pub use Rattle.drt_edf_fronts.specs.Needs.{table_need, HasWaveTable}
 pub use Rattle.drt_table.specs.Machine.{search_of}
 
 -- The search of this task's walks spent the budget: the log is a run of that many steps which isn't finished, up to the horizon of

@@ -5,7 +5,7 @@ ghost use Rattle.drt_horizon.specs.Plans.{IsHorizonPlan};
 ghost use Rattle.drt_claims.specs.Claims.{graphs_of};
 ghost use Rattle.drt_claims.specs.Ranges.{IsCounted, IsEvidenceInRange};
 ghost use Rattle.drt_edf.specs.Answers.{IsEdfAnswer, IsEdfVerdict};
-ghost use Rattle.drt_fronts.specs.LabelFronts.{AreDemandWalks, AreLabelFronts};
+ghost use Rattle.drt_edf_fronts.specs.LabelFronts.{AreDemandWalks, AreLabelFronts};
 
 use crate::answer::EdfAnswer;
 use crate::claims::claims_of;
@@ -15,7 +15,7 @@ use drt_accepted::Accepted;
 use drt_busy::deadlines_decide;
 use drt_claims::Evidence;
 use drt_crew::Crew;
-use drt_fronts::demand_walk;
+use drt_edf_fronts::demand_walk;
 use drt_graph::{FrontEntry, Graphs};
 use drt_horizon::{Horizon, horizon_holds, scan};
 use drt_model::{Memory, Row};

@@ -21,6 +21,6 @@ mod turns;
 
 pub use analysis::analyse_edf;
 pub use answer::EdfAnswer;
-pub use drt_fronts::{has_wave_table, searches_are_bounded};
+pub use drt_edf_fronts::{has_wave_table, searches_are_bounded};
 pub use drt_trails::EdfTrail;
 pub use laws::{horizon_is_one, rates_are_one};

@@ -5,7 +5,7 @@ ghost use Rattle.drt_model.specs.Digraph.{vertex_count};
 
 use drt_ahead::shared_size;
 use drt_effort::MOST_WORKERS;
-use drt_fronts::has_wave_table;
+use drt_edf_fronts::has_wave_table;
 use drt_graph::{Graph, Graphs};
 use drt_model::Memory;
 use std::alloc::Global;

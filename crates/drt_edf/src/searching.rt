@@ -8,7 +8,7 @@ use crate::reckoning::{busy_workers, reckon_all};
 use drt_ahead::{largest_first, look_ahead, take_found};
 use drt_crew::Crew;
 use drt_effort::Effort;
-use drt_fronts::{Ended, drive_task, has_wave_table, merged_front, search_task};
+use drt_edf_fronts::{Ended, drive_task, has_wave_table, merged_front, search_task};
 use drt_graph::{FrontEntry, Graphs};
 use drt_model::{Memory, Row};
 use drt_pool::Gate;

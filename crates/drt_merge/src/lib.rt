@@ -20,4 +20,4 @@ pub use arcs::Arc;
 pub use lists::Lists;
 pub use mark::Mark;
 pub use merging::{Patience, merged_front};
-pub use offering::Outcome;
+pub use offering::Offered;

@@ -11,7 +11,7 @@ ghost use Rattle.drt_merge.specs.Gathered.{IsMergedFront};
 use crate::arcs::arcs_of;
 use crate::gathering::entries_of;
 use crate::lists::Lists;
-use crate::offering::Outcome;
+use crate::offering::Offered;
 use crate::opening::open_all;
 use crate::queue::Queue;
 use crate::streams::{Merging, Walks, are_spent, refresh, step, wake};
@@ -64,18 +64,18 @@ fn take(walks: Walks<'_>, merging: &mut Merging, k: u32) -> Result<Option<u64>, 
     let count = walks.arcs.len() as u32;
     let target = walks.arcs[k as usize].target;
     match step(walks, merging, k)? {
-        Outcome::Kept => {
+        Offered::Kept => {
             let from = start_at(walks.starts, target, count);
             let to = start_at(walks.starts, target.saturating_add(1), count);
             wake(walks, merging, from, to);
             refresh(walks, merging, k);
             Ok(Some(u64::from(to.saturating_sub(from)) + 2))
         }
-        Outcome::Covered => {
+        Offered::Covered => {
             refresh(walks, merging, k);
             Ok(Some(0))
         }
-        Outcome::Astray => Ok(None),
+        Offered::Astray => Ok(None),
     }
 }
 

@@ -12,7 +12,7 @@ use drt_model::Memory;
 
 /// What becomes of a mark that is offered to a vertex.
 #[derive(Debug, Drop, Clone, Copy, PartialEq, Eq)]
-pub enum Outcome {
+pub enum Offered {
     /// It is added.
     Kept,
     /// A mark of the vertex covers it.
@@ -29,7 +29,7 @@ pub(crate) fn is_over(a: Mark, b: Mark) -> bool
 }
 
 // What becomes of a mark that is offered to a vertex.
-fn judge(graph: &Graph, bound: u64, lists: &Lists, vertex: u32, mark: Mark) -> Outcome
+fn judge(graph: &Graph, bound: u64, lists: &Lists, vertex: u32, mark: Mark) -> Offered
     requires vertex { vertex < vertex_count graph.now }
     requires rows { AreRows graph.now bound lists.now }
     ensures { IsOfferJudged (row lists.now vertex) mark result }
@@ -37,14 +37,14 @@ fn judge(graph: &Graph, bound: u64, lists: &Lists, vertex: u32, mark: Mark) -> O
     match lists.last(vertex) {
         Some(last) => {
             if is_over(last, mark) {
-                return Outcome::Covered;
+                return Offered::Covered;
             }
             if last.offset < mark.offset && last.work < mark.work {
-                return Outcome::Kept;
+                return Offered::Kept;
             }
-            Outcome::Astray
+            Offered::Astray
         }
-        None => Outcome::Kept,
+        None => Offered::Kept,
     }
 }
 
@@ -55,7 +55,7 @@ pub fn offer(
     lists: &mut Lists,
     vertex: u32,
     mark: Mark,
-) -> Result<Outcome, Memory>
+) -> Result<Offered, Memory>
     requires vertex { vertex < vertex_count graph.now }
     requires walk { IsWalkEntry graph.now bound (entry_of vertex mark) }
     requires small { IsSmallMark mark }
@@ -65,11 +65,11 @@ pub fn offer(
     ensures offered { IfOk result (λ outcome. IsOffered (row lists.new vertex) mark outcome) }
 {
     match judge(graph, bound, lists, vertex, mark) {
-        Outcome::Kept => {
+        Offered::Kept => {
             lists.push(vertex, mark)?;
-            Ok(Outcome::Kept)
+            Ok(Offered::Kept)
         }
-        Outcome::Covered => Ok(Outcome::Covered),
-        Outcome::Astray => Ok(Outcome::Astray),
+        Offered::Covered => Ok(Offered::Covered),
+        Offered::Astray => Ok(Offered::Astray),
     }
 }

@@ -5,7 +5,7 @@ ghost use Rattle.drt_merge.specs.Marks.{AreRows, AreOpenedTo, AreEmpty};
 
 use crate::lists::Lists;
 use crate::mark::Mark;
-use crate::offering::{Outcome, offer};
+use crate::offering::{Offered, offer};
 use drt_graph::Graph;
 use drt_model::Memory;
 
@@ -35,9 +35,9 @@ fn open_vertex(
         work: u64::from(wcet),
     };
     match offer(graph, bound, lists, vertex, mark)? {
-        Outcome::Astray => Ok(None),
-        Outcome::Covered => Ok(Some(0)),
-        Outcome::Kept => Ok(Some(u64::from(graph.out_degree(vertex)) + 2)),
+        Offered::Astray => Ok(None),
+        Offered::Covered => Ok(Some(0)),
+        Offered::Kept => Ok(Some(u64::from(graph.out_degree(vertex)) + 2)),
     }
 }
 

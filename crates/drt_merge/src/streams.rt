@@ -9,7 +9,7 @@ ghost use Rattle.drt_merge.specs.Merging.{IsMerging, IsCandidate, AreCoveredFrom
 use crate::arcs::Arc;
 use crate::lists::Lists;
 use crate::mark::Mark;
-use crate::offering::{Outcome, is_over, offer};
+use crate::offering::{Offered, is_over, offer};
 use crate::queue::Queue;
 use drt_graph::Graph;
 use drt_model::Memory;
@@ -114,7 +114,7 @@ pub fn wake(walks: Walks<'_>, merging: &mut Merging, from: u32, to: u32)
 }
 
 /// Offers the candidate of an arc.
-pub fn step(walks: Walks<'_>, merging: &mut Merging, k: u32) -> Result<Outcome, Memory>
+pub fn step(walks: Walks<'_>, merging: &mut Merging, k: u32) -> Result<Offered, Memory>
     requires bound { walks.bound ≤ most_horizon }
     requires arcs { AreArcs walks.graph.now walks.arcs.now }
     requires merging { IsMerging walks.graph.now walks.bound walks.arcs.now merging.old.lists merging.old.cursors.items }
@@ -126,19 +126,19 @@ pub fn step(walks: Walks<'_>, merging: &mut Merging, k: u32) -> Result<Outcome, 
     let arc = walks.arcs[k as usize];
     let place = merging.cursors[k as usize];
     let Some(mark) = candidate(graph, bound, &merging.lists, arc, place) else {
-        return Ok(Outcome::Astray);
+        return Ok(Offered::Astray);
     };
     let offered = offer(graph, bound, &mut merging.lists, arc.target, mark)?;
     match offered {
-        Outcome::Kept => {
+        Offered::Kept => {
             merging.cursors[k as usize] = place + 1;
-            Ok(Outcome::Kept)
+            Ok(Offered::Kept)
         }
-        Outcome::Covered => {
+        Offered::Covered => {
             merging.cursors[k as usize] = place + 1;
-            Ok(Outcome::Covered)
+            Ok(Offered::Covered)
         }
-        Outcome::Astray => Ok(Outcome::Astray),
+        Offered::Astray => Ok(Offered::Astray),
     }
 }
 

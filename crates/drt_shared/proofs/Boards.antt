@@ -18,7 +18,7 @@ use Rattle.drt_table.proofs.Tables.{node_walk, node_vertex, labels_of, log_withi
 use Rattle.drt_table.proofs.Walks.{walk_range}
 use Rattle.drt_worklist.specs.Places.{first, changed}
 use Rattle.drt_worklist.proofs.Lists.{Found as FoundAt, found, Before, before_change, get_within, after_join, after_end}
-use Rattle.drt_shared.specs.Board.{HasSpares, CanHandOut, HandsOut, IsLogged}
+use Rattle.drt_shared.specs.TableBoard.{HasSpares, CanHandOut, HandsOut, IsLogged}
 use Rattle.drt_shared.specs.Passes.{IsLabel}
 use Rattle.drt_shared.specs.Replies.{logged_by, IsReplyOf}
 use Rattle.drt_shared.proofs.Goes.{IsAdded, WaitsAt, Waited, TakesOne, Goes, goes}

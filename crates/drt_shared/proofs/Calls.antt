@@ -21,7 +21,7 @@ use Rattle.drt_table.proofs.Tables.{at_node, offer_held}
 use Rattle.drt_table.proofs.Earliest.{and_left, and_right}
 use Rattle.drt_worklist.specs.Places.{first}
 use Rattle.drt_worklist.proofs.Lists.{Found as FoundAt, found, none_found}
-use Rattle.drt_shared.specs.Board.{ComesTaken, CanMove, CanCount, HasMore, CanHandOut, HandsOut, IsLogged, IsCall}
+use Rattle.drt_shared.specs.TableBoard.{ComesTaken, CanMove, CanCount, HasMore, CanHandOut, HandsOut, IsLogged, IsCall}
 use Rattle.drt_shared.specs.Finds.{is_same, found_node, found_at, found_for, is_that_node, is_expected}
 use Rattle.drt_shared.specs.Passes.{AreHeld, IsHolding, IsLabel, CanOffer}
 use Rattle.drt_shared.specs.Replies.{IsOfTake, IsOfOffer, IsOfClose}

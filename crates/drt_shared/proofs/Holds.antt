@@ -7,7 +7,7 @@ use Rattle.drt_model.specs.Digraph.{out_degree}
 use Rattle.drt_table.specs.Machine.{Setting}
 use Rattle.drt_table.specs.declared.step.TableReply.{TableReply}
 use Rattle.drt_table.specs.declared.step.TableReply.TheVariants.{Taken, Busy, Finished, Added, Dominated, OutOfRange, Closed, Spent}
-use Rattle.drt_shared.specs.Board.{ComesTaken, CanCount, HasMore}
+use Rattle.drt_shared.specs.TableBoard.{ComesTaken, CanCount, HasMore}
 use Rattle.drt_shared.specs.Passes.{HoldsAfter, Keeps, holding_by, holding_after, one_more, AreHeld, IsHolding, PassOf, SharedOf, IsNewPass}
 use Rattle.drt_shared.specs.Shared.{IsFresh}
 use Rattle.drt_shared.specs.Replies.{ForReply}

@@ -1,5 +1,5 @@
 pub mod Replies
 pub mod Passes
 pub mod Finds
-pub mod Board
+pub mod TableBoard
 pub mod Shared

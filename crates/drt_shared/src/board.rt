@@ -6,7 +6,7 @@ ghost use Rattle.drt_table.specs.Node.{is_held_by};
 ghost use Rattle.drt_table.specs.Taking.{taken_node};
 ghost use Rattle.drt_table.specs.View.{IsTable, setting_of, state_of, CanApply, ComesWith};
 ghost use Rattle.drt_worklist.specs.Places.{first};
-ghost use Rattle.drt_shared.specs.Board.{CanMove, CanHandOut, IsCall, IsLogged, StaysUnlessStepped};
+ghost use Rattle.drt_shared.specs.TableBoard.{CanMove, CanHandOut, IsCall, IsLogged, StaysUnlessStepped};
 ghost use Rattle.drt_shared.specs.Finds.{found_for, is_label_of, is_expected, is_that_node, TellsFound};
 ghost use Rattle.drt_shared.specs.Passes.{AreHeld, IsLabel};
 ghost use Rattle.drt_shared.specs.declared.reply.Move.TheVariants.{Take, Offer, Close};
@@ -24,13 +24,13 @@ use std::marker::Model;
 
 /// A table each of whose pending nodes has its spare, so that who takes one gets its label.
 #[derive(Drop)]
-pub struct Board<L: Label> {
+pub struct TableBoard<L: Label> {
     table: Table<L>,
 }
 
-impl<L: Label> Model for Board<L> {
+impl<L: Label> Model for TableBoard<L> {
     ghost use Rattle.drt_table.specs.View.{View, IsTable};
-    ghost use Rattle.drt_shared.specs.Board.{HasSpares};
+    ghost use Rattle.drt_shared.specs.TableBoard.{HasSpares};
 
     ghost Value = { View L };
 
@@ -39,7 +39,7 @@ impl<L: Label> Model for Board<L> {
     ghost invariant = { λ b. IsTable L.algebra b.table × HasSpares b.table };
 }
 
-impl<L: Label> Guarded for Board<L> {
+impl<L: Label> Guarded for TableBoard<L> {
     type Fixed = Terms;
 
     ghost use Rattle.std.specs.Prelude.{length};
@@ -50,13 +50,13 @@ impl<L: Label> Guarded for Board<L> {
     ghost entries = { λ b. length b.log };
 }
 
-impl<L: Label> Board<L> {
+impl<L: Label> TableBoard<L> {
     pub(crate) fn start(
         alloc: Global,
         graph: &Graph,
         bound: u64,
         budget: u64,
-    ) -> Result<Board<L>, Memory>
+    ) -> Result<TableBoard<L>, Memory>
         requires bound { IsTrue (L.algebra.takes_bound bound) }
         requires budget { (1 ≤ budget) × (budget ≤ most_budget) }
         ensures setting { IfOk result (λ board. setting_of board ≡ record { graph = graph.now; bound = bound; budget = budget }) }
@@ -64,7 +64,7 @@ impl<L: Label> Board<L> {
     {
         let table = Table::start(alloc, graph, bound, budget)?;
         keeps_its_run(&table);
-        Ok(Board { table })
+        Ok(TableBoard { table })
     }
 
     pub(crate) fn into_table(self) -> Table<L>
@@ -144,7 +144,7 @@ impl<L: Label> Board<L> {
     }
 }
 
-impl<L: Label> Board<L> {
+impl<L: Label> TableBoard<L> {
     // The step Take of a worker that holds no node. With the node comes its label.
     fn take(&mut self, worker: u32) -> (TableReply, Option<Holding<L>>)
         requires { first (is_held_by worker) (state_of self.old).nodes ≡ None }

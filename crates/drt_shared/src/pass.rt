@@ -3,7 +3,7 @@
 ghost use Rattle.std.specs.Prelude.{◌≡◌, Some, None, option_map};
 ghost use Rattle.drt_shared.specs.Passes.{offers_of};
 
-use crate::board::Board;
+use crate::board::TableBoard;
 use crate::terms::Terms;
 use atomic_table::Seat;
 use drt_label::Label;
@@ -26,7 +26,7 @@ pub struct Pass<L: Label> {
     pub(crate) count: u64,
     pub(crate) holding: Option<Holding<L>>,
     pub(crate) halted: bool,
-    pub(crate) seat: Seat<Board<L>, SeatView<Terms>>,
+    pub(crate) seat: Seat<TableBoard<L>, SeatView<Terms>>,
 }
 
 impl<L: Label> Model for Pass<L> {

@@ -9,7 +9,7 @@ ghost use Rattle.drt_shared.specs.Shared.{IsFresh, AreOf};
 ghost use Rattle.drt_table.specs.View.{IsTable, setting_of};
 ghost use Rattle.drt_worklist.specs.Places.{total};
 
-use crate::board::Board;
+use crate::board::TableBoard;
 use crate::pass::Pass;
 use crate::terms::Terms;
 use atomic_table::Seat;
@@ -19,8 +19,8 @@ use drt_table::Table;
 
 // Gives out so many passes, one part of the owner's seat to each.
 pub(crate) fn deal<L: Label>(
-    lock: &Lock<Board<L>>,
-    owner: &mut Seat<Board<L>, SeatView<Terms>>,
+    lock: &Lock<TableBoard<L>>,
+    owner: &mut Seat<TableBoard<L>, SeatView<Terms>>,
     into: &mut Vec<Pass<L>>,
     count: u32,
 )
@@ -46,8 +46,8 @@ pub(crate) fn deal<L: Label>(
 
 // Takes the counts of the passes together. The table's log has as many entries.
 pub(crate) fn gather<L: Label>(
-    lock: Lock<Board<L>>,
-    mut owner: Seat<Board<L>, SeatView<Terms>>,
+    lock: Lock<TableBoard<L>>,
+    mut owner: Seat<TableBoard<L>, SeatView<Terms>>,
     mut passes: Vec<Pass<L>>,
 ) -> Table<L>
     requires name { owner.table_id ≡ lock.name }

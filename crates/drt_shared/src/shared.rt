@@ -6,7 +6,7 @@ ghost use Rattle.drt_lock.specs.Seats.{IsAtWork, HoldsMachine};
 ghost use Rattle.drt_pool.specs.Turns.{EachPlace};
 ghost use Rattle.drt_table.specs.View.{View, IsTable, setting_of};
 ghost use Rattle.drt_worklist.specs.Places.{total};
-ghost use Rattle.drt_shared.specs.Board.{CanMove, CanCount, IsCall, IsReplyTo};
+ghost use Rattle.drt_shared.specs.TableBoard.{CanMove, CanCount, IsCall, IsReplyTo};
 ghost use Rattle.drt_table.specs.Machine.{Setting};
 ghost use Rattle.drt_shared.specs.Finds.{DiffersIfStrange};
 ghost use Rattle.drt_shared.specs.Passes.{IsPassOf, IsNewPass, CanOffer, AreHeld, HasMoved, holding_after, holding_by, one_more, is_any_halted as any_halted};
@@ -14,7 +14,7 @@ ghost use Rattle.drt_shared.specs.Replies.{ForReply, IsOfTake, IsOfOffer, IsOfCl
 ghost use Rattle.drt_shared.specs.declared.pass.Holding.{Holding};
 ghost use Rattle.drt_model.specs.Digraph.{out_degree};
 
-use crate::board::Board;
+use crate::board::TableBoard;
 use crate::pass::{Holding, Pass};
 use crate::passes::{deal, gather, is_any_halted};
 use crate::reply::{Move, SharedReply};
@@ -35,9 +35,9 @@ use std::sync::atomic::{AtomicBool, Ordering};
 /// passes it has. Whenever its lock is free the table's state is the replay of its log, from the opening state of the start.
 #[derive(Drop)]
 pub struct SharedTable<L: Label> {
-    lock: Lock<Board<L>>,
+    lock: Lock<TableBoard<L>>,
     // The seat with the parts that no pass has.
-    owner: Kept<Seat<Board<L>, SeatView<Terms>>>,
+    owner: Kept<Seat<TableBoard<L>, SeatView<Terms>>>,
     passes: u32,
     // The mark of `halt`.
     halted: AtomicBool,
@@ -78,7 +78,7 @@ impl<L: Label> SharedTable<L> {
         ensures count { IfOk result (λ r. (r.0.passes ≡ passes) × (length r.1 ≡ passes)) }
         ensures passes { IfOk result (λ r. EachPlace (IsNewPass L.algebra r.0) r.1) }
     {
-        let board = Board::start(alloc, graph, bound, budget)?;
+        let board = TableBoard::start(alloc, graph, bound, budget)?;
         let terms = Terms::new(graph, bound, budget);
         let mut given = Vec::with_capacity(alloc, passes as usize)?;
         let (lock, mut owner) = Lock::new(alloc, board, Snapshot::of(&terms))?;
@@ -181,7 +181,7 @@ impl<L: Label> SharedTable<L> {
     // The call on the table that is out with the seat.
     fn act(
         &self,
-        seat: &mut Seat<Board<L>, SeatView<Terms>>,
+        seat: &mut Seat<TableBoard<L>, SeatView<Terms>>,
         worker: u32,
         holding: &Option<Holding<L>>,
         wanted: Move<Twin<L>>,
@@ -199,7 +199,7 @@ impl<L: Label> SharedTable<L> {
     }
 
     // Counts the step where it is logged, and answers how many were.
-    fn tally(&self, seat: &mut Seat<Board<L>, SeatView<Terms>>, reply: SharedReply) -> u64
+    fn tally(&self, seat: &mut Seat<TableBoard<L>, SeatView<Terms>>, reply: SharedReply) -> u64
         requires name { seat.old.table_id ≡ self.now.name }
         requires work { IsAtWork seat.old.me.0 × (seat.old.me.0.read + logged reply < 2 ^ 64) }
         ensures result { result ≡ logged reply }

@@ -4,16 +4,16 @@ use Rattle.drt_worst.specs.Splitting.{Search}
 use Rattle.drt_worst.specs.Subjects.{search_over}
 use Rattle.drt_worst.specs.Passing.{search_of_question, IsSeatOf, HasRun, IsSearchReady}
 use Rattle.drt_worst.specs.declared.pass.Pass.{Pass}
-use Rattle.drt_word.specs.Closing.{WordOf}
+use Rattle.drt_rising_word.specs.Closing.{WordOf}
 use Rattle.drt_worst.specs.declared.pass.Question.{Question}
-use Rattle.drt_worst.specs.declared.turn.Job.{Job}
+use Rattle.drt_worst.specs.declared.turn.SearchJob.{SearchJob}
 
 -- The search that the passes make.
-abbrev pub search_of_job : Job → Search
+abbrev pub search_of_job : SearchJob → Search
 search_of_job job = search_over job.subject
 
 -- The roots that they begin with.
-abbrev pub roots_of_job : Job → List ℕ
+abbrev pub roots_of_job : SearchJob → List ℕ
 roots_of_job job = job.word.now.about.roots.value
 
 -- Where it's to be told what the pass took, it is.
@@ -21,7 +21,7 @@ abbrev pub IsToldAs : Bool → Pass → Type 0
 IsToldAs told p = told ≡ true → IsSome p.taken.told
 
 -- The pass is one of the job. One that found no memory only has its seat.
-abbrev pub IsPassOfJob : Job → Pass → Type 0
+abbrev pub IsPassOfJob : SearchJob → Pass → Type 0
 IsPassOfJob job p =
     (search_of_question job.word.now.about ≡ search_of_job job) × IsSearchReady (search_of_job job) (roots_of_job job)
     × IsSeatOf job.word.now.name p × IsToldAs job.told.value p

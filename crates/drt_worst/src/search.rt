@@ -7,7 +7,7 @@ ghost use Rattle.drt_tree.specs.Tree.{IsForest};
 ghost use Rattle.drt_refine.specs.Below.{AreBelow, AreNodes};
 ghost use Rattle.drt_worst.specs.Splitting.{AreParts, IsPart};
 ghost use Rattle.drt_worst.specs.Runs.{AreDealt};
-ghost use Rattle.drt_word.specs.Rising.{split_left, joined_views, fresh_view};
+ghost use Rattle.drt_rising_word.specs.Rising.{split_left, joined_views, fresh_view};
 ghost use Rattle.drt_worst.specs.Splitting.{search_for};
 ghost use Rattle.drt_worst.specs.Subjects.{search_over};
 ghost use Rattle.drt_worst.specs.Plans.{CanTake};
@@ -22,14 +22,14 @@ use crate::answer::Worst;
 use crate::pass::{Pass, Question, Taken};
 use crate::plan::halves;
 use crate::subject::Subject;
-use crate::turn::Job;
+use crate::turn::SearchJob;
 use atomic_table::Seat;
 use drt_crew::Crew;
 use drt_model::Row;
 use drt_pool::{Gate, run_all};
 use drt_refine::choose_place;
 use drt_tree::Forest;
-use drt_word::{View, Word};
+use drt_rising_word::{View, Word};
 use std::alloc::{AllocError as Memory, Global};
 use std::snapshot::Snapshot;
 use std::sync::Wait;
@@ -302,7 +302,7 @@ fn run_passes<G: Gate, R: Threads + Wait + Sync>(
     ensures told { EachPlace (λ place p. IsToldAs told p) passes.new }
     ensures dealt { EachPlace (λ place p. slice_get dealt.now place ≡ Some p.start) passes.new }
 {
-    let job = Job {
+    let job = SearchJob {
         alloc: crew.alloc,
         word,
         subject,

@@ -7,14 +7,14 @@ use crate::pass::{Pass, Question, take};
 use crate::subject::Subject;
 use drt_model::Row;
 use drt_pool::{Turn, Work};
-use drt_word::Word;
+use drt_rising_word::Word;
 use std::alloc::Global;
 use std::snapshot::Snapshot;
 use std::sync::Wait;
 
 /// What all passes work on.
 #[derive(Drop)]
-pub(crate) struct Job<'a, 'b> {
+pub(crate) struct SearchJob<'a, 'b> {
     pub(crate) alloc: Global,
     pub(crate) word: &'a Word<Question>,
     pub(crate) subject: Subject<'b>,
@@ -26,7 +26,7 @@ pub(crate) struct Job<'a, 'b> {
 }
 
 /// One turn of a pass: it stops where nothing is left, where it took as many as its budget, or where it found no memory.
-pub(crate) fn turn_of(job: &Job<'_, '_>, pass: &mut Pass) -> Turn
+pub(crate) fn turn_of(job: &SearchJob<'_, '_>, pass: &mut Pass) -> Turn
     requires { IsPassOfJob job.now pass.old }
     ensures kept { IsPassOfJob job.now pass.new }
     ensures start { pass.new.start ≡ pass.old.start }
@@ -44,7 +44,7 @@ pub(crate) fn turn_of(job: &Job<'_, '_>, pass: &mut Pass) -> Turn
     Turn::More
 }
 
-impl Work for Job<'_, '_> {
+impl Work for SearchJob<'_, '_> {
     type Pass = Pass;
 
     ghost fits = { λ job place p. IsPassOfJob job p × (slice_get job.dealt.now place ≡ Some p.start) };

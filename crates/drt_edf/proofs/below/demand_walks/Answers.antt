@@ -1,7 +1,7 @@
 use Rattle.std.proofs.Common.{◌≡◌, ◌<◌, ◌≤◌, [], get_or, length, sym, subst, arith, ◌∙◌}
 use Rattle.std.proofs.lemmas.List.{get_or_default, take_all, take_more}
 use Rattle.drt_graph.specs.Graphs.{no_graph, graph_of}
-use Rattle.drt_fronts.specs.LabelFronts.{IsDemandWalk, IsLabelFront}
+use Rattle.drt_edf_fronts.specs.LabelFronts.{IsDemandWalk, IsLabelFront}
 use Rattle.drt_edf.proofs.Gathered.{front_at, fronts_count, taken_count, walks_push}
 use Rattle.drt_edf.proofs.below.demand_walks.Goals as goal
 

@@ -7,7 +7,7 @@ use Rattle.drt_claims.specs.Claims.{graphs_of}
 use Rattle.drt_claims.specs.Ranges.{IsEvidenceInRange}
 use Rattle.drt_claims.specs.declared.evidence.Evidence.TheVariants.{EdfYes}
 use Rattle.drt_edf.specs.Answers.{IsExactEdfYes}
-use Rattle.drt_fronts.specs.LabelFronts.{AreDemandWalks}
+use Rattle.drt_edf_fronts.specs.LabelFronts.{AreDemandWalks}
 use Rattle.drt_edf.proofs.Decided.{listed_walks, plan_near, yes_in_range}
 use Rattle.drt_edf.proofs.Gathered.{fronts_within, walks_work}
 use Rattle.drt_edf.proofs.Suffixes.{AreListed}

@@ -4,7 +4,7 @@ use Rattle.std.proofs.lemmas.List.Elements.{All-push}
 use Rattle.std.proofs.lemmas.Option.{slice_get-get_or}
 use Rattle.drt_graph.specs.Graphs.{no_graph, graph_of}
 use Rattle.drt_claims.specs.Ranges.{IsCounted}
-use Rattle.drt_fronts.specs.LabelFronts.{AreLabelFronts}
+use Rattle.drt_edf_fronts.specs.LabelFronts.{AreLabelFronts}
 use Rattle.drt_edf.specs.Searches.{IsEndOf}
 use Rattle.drt_edf.proofs.Gathered.{fronts_push}
 use Rattle.drt_edf.proofs.searching.searches.Goals as goal

@@ -3,7 +3,7 @@ use Rattle.std.proofs.Common.{take, All}
 use Rattle.drt_ahead.specs.Found.{AreThere}
 use Rattle.drt_edf.specs.Searches.{IsAheadOf}
 use Rattle.drt_claims.specs.Ranges.{IsCounted}
-use Rattle.drt_fronts.specs.LabelFronts.{AreLabelFronts}
+use Rattle.drt_edf_fronts.specs.LabelFronts.{AreLabelFronts}
 use Rattle.drt_edf.proofs.searching.searches.Given as goal
 
 abbrev pub invariant-tasks : goal.invariant-tasks

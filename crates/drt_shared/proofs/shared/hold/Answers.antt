@@ -1,5 +1,5 @@
 use Rattle.std.proofs.Common.{subst}
-use Rattle.drt_shared.specs.Board.{CanCount}
+use Rattle.drt_shared.specs.TableBoard.{CanCount}
 use Rattle.drt_shared.specs.Replies.{ForReply}
 use Rattle.drt_shared.proofs.shared.hold.Goals as goal
 

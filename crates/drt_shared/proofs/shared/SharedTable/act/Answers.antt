@@ -2,7 +2,7 @@ use Rattle.std.proofs.Common.{◌∷◌, ap, subst, ◌∙◌, sym, rules}
 use Rattle.atomic_table.specs.Table.{rest}
 use Rattle.drt_lock.proofs.Steps.{held_is}
 use Rattle.drt_table.specs.View.{setting_of}
-use Rattle.drt_shared.specs.Board.{CanMove, IsCall}
+use Rattle.drt_shared.specs.TableBoard.{CanMove, IsCall}
 use Rattle.drt_shared.proofs.shared.SharedTable.act.Goals as goal
 
 pub slot_mut-board-requires : goal.slot_mut-board-requires

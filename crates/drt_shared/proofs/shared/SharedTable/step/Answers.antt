@@ -1,6 +1,6 @@
 use Rattle.std.proofs.Common.{ap, subst, sym, ◌∙◌, rules}
 use Rattle.drt_table.specs.View.{setting_of}
-use Rattle.drt_shared.specs.Board.{CanMove, CanCount}
+use Rattle.drt_shared.specs.TableBoard.{CanMove, CanCount}
 use Rattle.drt_shared.specs.Passes.{AreHeld}
 use Rattle.drt_shared.specs.Replies.{ForReply}
 use Rattle.drt_shared.proofs.Holds.{held_after}
