@@ -9,7 +9,7 @@ use Rattle.drt_claims.specs.Trees.{IsClosedWalk, IsShortWalk}
 use Rattle.drt_claims.specs.declared.evidence.TreeClaim.{TreeClaim}
 use Rattle.drt_check_trees.specs.Asking.{span_of}
 use Rattle.drt_check_trees.specs.Entries.{IsExtendedBy, IsWalkOver, last_in}
-use Rattle.drt_check_trees.proofs.Ranks.{short_last}
+use Rattle.drt_check_trees.proofs.Dominators.{short_last}
 
 pub work_longer : (g : Digraph) (walk : List ℕ) (v : ℕ) → work g (walk ++ v ∷ []) ≡ work g walk + wcet g v
 work_longer g walk v = let a = work_both g walk (v ∷ []) in let b = work_cons g v [] in let c = work_none g in omega (arith, a, b, c)

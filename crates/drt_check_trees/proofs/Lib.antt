@@ -5,7 +5,7 @@ mod Naming
 mod Shorts
 mod Asks
 mod Looks
-mod Ranks
+mod Dominators
 mod Domination
 mod Thinning
 mod Extending

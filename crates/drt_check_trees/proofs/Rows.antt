@@ -2,8 +2,9 @@
 use Rattle.std.proofs.Common.{◌≡◌, true, false, [], ◌∷◌, refl}
 use Rattle.drt_model.specs.declared.tasks.Task.{Task}
 use Rattle.drt_claims.specs.Trees.{by_priority, placed}
-use Rattle.drt_check_trees.specs.Entries.{last_in, rank_of}
+use Rattle.drt_check_trees.specs.Entries.{is_up_to, last_in}
 use Rattle.drt_check_trees.specs.Marks.{marked, names}
+use Rattle.drt_check_trees.specs.declared.entries.Entry.{Entry}
 use Rattle.drt_check_trees.specs.Order.{IsPriorityOrder}
 
 -- A pair names each of its parts, and one that is both of them twice.
@@ -26,9 +27,15 @@ past_unmarked = refl
 pub last_of_three : last_in (1 ∷ 0 ∷ 2 ∷ []) ≡ 2
 last_of_three = refl
 
--- More work stands first: 2^40 - 1 - 5 after those of vertex 0.
-pub rank_of_five : rank_of 1 5 ≡ 2199023255546
-rank_of_five = refl
+-- Of walks to one vertex, those with more work stand first.
+abbrev more_work : Entry
+more_work = record { last = 1; work = record { 0 = 7 }; span = 0; digest = 0; number = 4 }
+
+pub seven_before_five : is_up_to 1 5 more_work ≡ true
+seven_before_five = refl
+
+pub seven_past_nine : is_up_to 1 9 more_work ≡ false
+seven_past_nine = refl
 
 -- The second task has the higher priority.
 abbrev lower : Task

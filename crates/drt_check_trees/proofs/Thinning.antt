@@ -3,16 +3,20 @@
 use Rattle.std.proofs.Common.{◌≡◌, ◌≢◌, ℕ, ◌+◌, ◌-◌, ◌<◌, ◌≤◌, ◌⊎◌, inl, inr, List, [], All, length, get_or, set, take, refl, ap, sym, subst, arith, ◌∙◌}
 use Rattle.std.proofs.lemmas.Bool.{cases_lt}
 use Rattle.std.proofs.lemmas.List.{get_or-set_other, get_or-set_same, get_or-take, get_or_default, length-set, length-take}
-use Rattle.std.proofs.lemmas.List.Sorted.{IsNonDecreasingBy-from_default}
 use Rattle.drt_model.specs.Digraph.{Digraph}
 use Rattle.drt_claims.specs.Trees.{IsShortWalk}
-use Rattle.drt_check_trees.specs.Entries.{AreWalkEntries, IsEntryOf, IsWalkOver}
+use Rattle.drt_check_trees.specs.Entries.{AreWalkEntries, IsEntryOf, IsNoLater, IsWalkOver}
 use Rattle.drt_check_trees.specs.declared.entries.Entry.{Entry}
 use Rattle.drt_check_trees.proofs.Domination.{over_self, over_trans}
+use Rattle.drt_check_trees.proofs.Dominators.{no_later_self}
 
 -- What stands for an entry past the last one.
 abbrev none : Entry
-none = record { rank = 0; number = 0; span = 0; digest = 0 }
+none = record { last = 0; work = record { 0 = 0 }; span = 0; digest = 0; number = 0 }
+
+-- The order is that of equal entries.
+no_later_at : (e f e' f' : Entry) → e' ≡ e → f' ≡ f → IsNoLater e f → IsNoLater e' f'
+no_later_at e f e' f' at_e at_f is = subst (λ (x : Entry). IsNoLater x f') (sym at_e) (subst (λ (y : Entry). IsNoLater e y) (sym at_f) is)
 
 module _ (bound : ℕ) (g : Digraph) (walks : List (List ℕ)) where
   abbrev walk_of : Entry → List ℕ
@@ -32,8 +36,8 @@ module _ (bound : ℕ) (g : Digraph) (walks : List (List ℕ)) where
     pub few : kept ≤ i
     pub rest : (k : ℕ) → i ≤ k → k < length first → get_or now k none ≡ get_or first k none
     pub each : (k : ℕ) → k < kept → k < length first → IsEntryOf g walks (get_or now k none)
-    pub sorted : (j k : ℕ) → j ≤ k → k < kept → k < length first → (get_or now j none).rank ≤ (get_or now k none).rank
-    pub below : (j k : ℕ) → j < kept → i ≤ k → k < length first → (get_or now j none).rank ≤ (get_or first k none).rank
+    pub sorted : (j k : ℕ) → j ≤ k → k < kept → k < length first → IsNoLater (get_or now j none) (get_or now k none)
+    pub below : (j k : ℕ) → j < kept → i ≤ k → k < length first → IsNoLater (get_or now j none) (get_or first k none)
     pub every : (j : ℕ) → j < i → j < length first → IsKept now kept (get_or first j none)
 
   module _ (short : All (IsShortWalk bound g) walks) (first : List Entry) (are : AreWalkEntries bound g walks first) where
@@ -114,28 +118,26 @@ module _ (bound : ℕ) (g : Digraph) (walks : List (List ℕ)) where
           each k n m (inr q) = subst (IsEntryOf g walks) (sym (here k (omega arith))) (are.each i none l)
 
           sorted : (j k : ℕ) → j ≤ k → k < kept + 1 → k < length first → (j < kept) ⊎ (kept ≤ j) → (k < kept) ⊎ (kept ≤ k)
-              → (get_or (set now kept (get_or now i none)) j none).rank ≤ (get_or (set now kept (get_or now i none)) k none).rank
+              → IsNoLater (get_or (set now kept (get_or now i none)) j none) (get_or (set now kept (get_or now i none)) k none)
           sorted j k m n o (inl p) (inl q) =
-              let a = ap (λ (x : Entry). x.rank) (other j (omega arith)) in
-              let b = ap (λ (x : Entry). x.rank) (other k (omega arith)) in
-              omega (arith, a, b, is.sorted j k m q o)
+              no_later_at (get_or now j none) (get_or now k none) (get_or (set now kept (get_or now i none)) j none) (get_or (set now kept (get_or now i none)) k none)
+              (other j (omega arith)) (other k (omega arith)) (is.sorted j k m q o)
           sorted j k m n o (inl p) (inr q) =
-              let a = ap (λ (x : Entry). x.rank) (other j (omega arith)) in
-              let b = ap (λ (x : Entry). x.rank) (here k (omega arith)) in
-              omega (arith, a, b, is.below j i p (omega arith) l)
+              no_later_at (get_or now j none) (get_or first i none) (get_or (set now kept (get_or now i none)) j none) (get_or (set now kept (get_or now i none)) k none)
+              (other j (omega arith)) (here k (omega arith)) (is.below j i p (omega arith) l)
           sorted j k m n o (inr p) q =
               let e : j ≡ k = omega arith in
-              let a = ap (λ x. (get_or (set now kept (get_or now i none)) x none).rank) e in
-              omega (arith, a)
+              subst (λ x. IsNoLater (get_or (set now kept (get_or now i none)) j none) (get_or (set now kept (get_or now i none)) x none)) e
+              (no_later_self (get_or (set now kept (get_or now i none)) j none))
 
           below : (j k : ℕ) → j < kept + 1 → i + 1 ≤ k → k < length first → (j < kept) ⊎ (kept ≤ j)
-              → (get_or (set now kept (get_or now i none)) j none).rank ≤ (get_or first k none).rank
+              → IsNoLater (get_or (set now kept (get_or now i none)) j none) (get_or first k none)
           below j k m n o (inl p) =
-              let a = ap (λ (x : Entry). x.rank) (other j (omega arith)) in
-              omega (arith, a, is.below j k p (omega arith) o)
+              no_later_at (get_or now j none) (get_or first k none) (get_or (set now kept (get_or now i none)) j none) (get_or first k none)
+              (other j (omega arith)) refl (is.below j k p (omega arith) o)
           below j k m n o (inr p) =
-              let a = ap (λ (x : Entry). x.rank) (here j (omega arith)) in
-              omega (arith, a, are.sorted i k none (omega arith) o)
+              no_later_at (get_or first i none) (get_or first k none) (get_or (set now kept (get_or now i none)) j none) (get_or first k none)
+              (here j (omega arith)) refl (are.sorted i k none (omega arith) o)
 
           every : (j : ℕ) → j < i + 1 → j < length first → (j < i) ⊎ (i ≤ j) → IsKept (set now kept (get_or now i none)) (kept + 1) (get_or first j none)
           every j m n (inl q) =
@@ -175,10 +177,11 @@ module _ (bound : ℕ) (g : Digraph) (walks : List (List ℕ)) where
             get_or_default (take kept now) was.place (get_or now was.place none) none within ∙ at,
             over_trans g bound (get_or walks n d) (walk_of e) (walk_of (get_or now was.place none)) found.4 over,
           );
-      sorted = IsNonDecreasingBy-from_default (λ e. e.rank) (take kept now) none (λ j k l m.
-          let a = ap (λ (x : Entry). x.rank) (get_or-take kept now j none (omega (arith, low k m))) in
-          let b = ap (λ (x : Entry). x.rank) (get_or-take kept now k none (low k m)) in
-          omega (arith, a, b, is.sorted j k l (low k m) (short_of k m)));
+      sorted = λ j k d l m.
+          let o : j < length (take kept now) = omega arith in
+          no_later_at (get_or now j none) (get_or now k none) (get_or (take kept now) j d) (get_or (take kept now) k d)
+          (get_or_default (take kept now) j d none o ∙ get_or-take kept now j none (low j o)) (get_or_default (take kept now) k d none m ∙ get_or-take kept now k none (low k m))
+          (is.sorted j k l (low k m) (short_of k m));
     }
       where
         low : (k : ℕ) → k < length (take kept now) → k < kept

@@ -6,14 +6,14 @@ ghost use Rattle.drt_model.specs.Walk.{work};
 ghost use Rattle.drt_claims.specs.Claims.{Each, graphs_of};
 ghost use Rattle.drt_claims.specs.Trees.{CoversWalks, HasOpeningWalks, HasShortWalks, IsClosedWalk, IsShortWalk, IsTreePerHigherTask, greatest_deadline, tree_graphs};
 ghost use Rattle.drt_check_trees.specs.Asking.{span_of};
-ghost use Rattle.drt_check_trees.specs.Entries.{AreWalkEntries, IsExtendedBy, last_in};
-ghost use Rattle.drt_check_trees.specs.Gaps.{AreGaps};
+ghost use Rattle.drt_check_trees.specs.Entries.{IsCatalogue, IsExtendedBy, last_in};
+ghost use Rattle.drt_check_trees.specs.Gaps.{IsBounded};
 ghost use Rattle.drt_check_trees.specs.Order.{IsPriorityOrder};
 
 use crate::asking::{Extent, measure};
 use crate::deadlines::greatest_deadline;
-use crate::entries::{Entry, entries_of, has_above, last_in};
-use crate::gaps::gaps_of;
+use crate::entries::{Catalogue, entries_of, has_above, last_in, walk_at};
+use crate::gaps::{Bounded, gaps_of};
 use crate::order::tree_graph;
 use drt_claims::TreeClaim;
 use drt_graph::{Graph, Graphs};
@@ -21,7 +21,7 @@ use drt_model::{Memory, Row, TaskSet};
 use std::alloc::Global;
 
 /// Whether in each tree the walks of single vertices and the walks of the tree extended by an edge are dominated by walks of the
-/// tree, as far as they span less than the greatest deadline. It looks at no walk of another tree, and takes some 24 bytes for each
+/// tree, as far as they span less than the greatest deadline. It looks at no walk of another tree, and takes some 32 bytes for each
 /// walk of a tree at a time.
 pub fn cover_walks(
     alloc: Global,
@@ -53,63 +53,38 @@ fn covers(alloc: Global, graph: &Graph, bound: u32, tree: &TreeClaim) -> Result<
     requires short { HasShortWalks bound graph.now tree.now }
     ensures { IfOk result (λ covers. IsTrue covers ↔ CoversWalks bound graph.now tree.now) }
 {
-    let walks = tree.walks.as_slice();
     let gaps = gaps_of(alloc, graph)?;
-    let entries = entries_of(alloc, graph, gaps.as_slice(), bound, walks)?;
-    let mut hints = [0; 96];
-    if !has_openings(
+    let bounded = Bounded {
         graph,
-        gaps.as_slice(),
+        gaps: gaps.as_slice(),
         bound,
+    };
+    let entries = entries_of(alloc, &bounded, tree)?;
+    let catalogue = Catalogue {
         tree,
-        entries.as_slice(),
-        &mut hints,
-    ) {
+        entries: entries.as_slice(),
+    };
+    let mut hints = [0; 96];
+    if !has_openings(&bounded, &catalogue, &mut hints) {
         return Ok(false);
     }
-    are_closed(
-        alloc,
-        graph,
-        gaps.as_slice(),
-        bound,
-        tree,
-        entries.as_slice(),
-        &mut hints,
-    )
+    are_closed(alloc, &bounded, &catalogue, &mut hints)
 }
 
 // Whether the walk of each single vertex is dominated.
-fn has_openings(
-    graph: &Graph,
-    gaps: &[u32],
-    bound: u32,
-    tree: &TreeClaim,
-    entries: &[Entry],
-    hints: &mut [usize; 96],
-) -> bool
-    requires gaps { AreGaps graph.now gaps.now }
-    requires from { 1 ≤ bound }
-    requires to { bound ≤ most_time }
-    requires short { HasShortWalks bound graph.now tree.now }
-    requires entries { AreWalkEntries bound graph.now tree.now.walks entries.now }
-    ensures { IsTrue result ↔ HasOpeningWalks bound graph.now tree.now }
+fn has_openings(bounded: &Bounded<'_>, catalogue: &Catalogue<'_>, hints: &mut [usize; 96]) -> bool
+    requires bounded { IsBounded bounded.now }
+    requires from { 1 ≤ bounded.now.bound }
+    requires catalogue { IsCatalogue bounded.now catalogue.now }
+    ensures { IsTrue result ↔ HasOpeningWalks bounded.now.bound bounded.now.graph.now catalogue.now.tree.now }
 {
-    for v in 0..graph.vertex_count() {
+    for v in 0..bounded.graph.vertex_count() {
         let opening = [v];
         let extent = Extent {
             span: 0,
-            work: graph.vertex(v).wcet as u64,
+            work: bounded.graph.vertex(v).wcet as u64,
         };
-        if !has_above(
-            graph,
-            gaps,
-            bound,
-            tree.walks.as_slice(),
-            entries,
-            hints,
-            &opening,
-            extent,
-        ) {
+        if !has_above(bounded, catalogue, hints, &opening, extent) {
             return false;
         }
     }
@@ -120,31 +95,17 @@ fn has_openings(
 // of a walk that another one dominates are dominated by those of the other one.
 fn are_closed(
     alloc: Global,
-    graph: &Graph,
-    gaps: &[u32],
-    bound: u32,
-    tree: &TreeClaim,
-    entries: &[Entry],
+    bounded: &Bounded<'_>,
+    catalogue: &Catalogue<'_>,
     hints: &mut [usize; 96],
 ) -> Result<bool, Memory>
-    requires gaps { AreGaps graph.now gaps.now }
-    requires bound { bound ≤ most_time }
-    requires short { HasShortWalks bound graph.now tree.now }
-    requires entries { AreWalkEntries bound graph.now tree.now.walks entries.now }
-    ensures { IfOk result (λ closed. IsTrue closed ↔ All (IsClosedWalk bound graph.now tree.now) tree.now.walks) }
+    requires bounded { IsBounded bounded.now }
+    requires catalogue { IsCatalogue bounded.now catalogue.now }
+    ensures { IfOk result (λ closed. IsTrue closed ↔ All (IsClosedWalk bounded.now.bound bounded.now.graph.now catalogue.now.tree.now) catalogue.now.tree.now.walks) }
 {
-    let walks = tree.walks.as_slice();
-    for i in 0..entries.len() {
-        if !is_closed(
-            alloc,
-            graph,
-            gaps,
-            bound,
-            tree,
-            entries,
-            hints,
-            walks[entries[i].number].as_slice(),
-        )? {
+    for i in 0..catalogue.entries.len() {
+        let walk = walk_at(catalogue.tree, catalogue.entries[i].number);
+        if !is_closed(alloc, bounded, catalogue, hints, walk)? {
             return Ok(false);
         }
     }
@@ -154,28 +115,21 @@ fn are_closed(
 // Whether the walk's extension by each edge out of its last vertex is dominated, or spans as much as the bound.
 fn is_closed(
     alloc: Global,
-    graph: &Graph,
-    gaps: &[u32],
-    bound: u32,
-    tree: &TreeClaim,
-    entries: &[Entry],
+    bounded: &Bounded<'_>,
+    catalogue: &Catalogue<'_>,
     hints: &mut [usize; 96],
     walk: &[u32],
 ) -> Result<bool, Memory>
-    requires gaps { AreGaps graph.now gaps.now }
-    requires bound { bound ≤ most_time }
-    requires short { HasShortWalks bound graph.now tree.now }
-    requires entries { AreWalkEntries bound graph.now tree.now.walks entries.now }
-    requires walk { IsShortWalk bound graph.now walk.now }
-    ensures { IfOk result (λ closed. IsTrue closed ↔ IsClosedWalk bound graph.now tree.now walk.now) }
+    requires bounded { IsBounded bounded.now }
+    requires catalogue { IsCatalogue bounded.now catalogue.now }
+    requires walk { IsShortWalk bounded.now.bound bounded.now.graph.now walk.now }
+    ensures { IfOk result (λ closed. IsTrue closed ↔ IsClosedWalk bounded.now.bound bounded.now.graph.now catalogue.now.tree.now walk.now) }
 {
-    graph.keep_limits();
+    bounded.graph.keep_limits();
     let last = last_in(walk);
-    let extent = measure(graph, gaps, walk);
-    for k in 0..graph.out_degree(last) {
-        if !is_extended(
-            alloc, graph, gaps, bound, tree, entries, hints, walk, extent, k,
-        )? {
+    let extent = measure(bounded.graph, bounded.gaps, walk);
+    for k in 0..bounded.graph.out_degree(last) {
+        if !is_extended(alloc, bounded, catalogue, hints, walk, extent, k)? {
             return Ok(false);
         }
     }
@@ -185,40 +139,32 @@ fn is_closed(
 // Whether the walk's extension by the edge of that number is dominated, or spans as much as the bound.
 fn is_extended(
     alloc: Global,
-    graph: &Graph,
-    gaps: &[u32],
-    bound: u32,
-    tree: &TreeClaim,
-    entries: &[Entry],
+    bounded: &Bounded<'_>,
+    catalogue: &Catalogue<'_>,
     hints: &mut [usize; 96],
     walk: &[u32],
     extent: Extent,
     k: u32,
 ) -> Result<bool, Memory>
-    requires gaps { AreGaps graph.now gaps.now }
-    requires bound { bound ≤ most_time }
-    requires short { HasShortWalks bound graph.now tree.now }
-    requires entries { AreWalkEntries bound graph.now tree.now.walks entries.now }
-    requires walk { IsShortWalk bound graph.now walk.now }
-    requires span { extent.span ≡ span_of graph.now walk.now }
-    requires work { extent.work ≡ work graph.now walk.now }
-    requires edge { k < out_degree graph.now (last_in walk.now) }
-    ensures { IfOk result (λ is. IsTrue is ↔ IsExtendedBy bound graph.now tree.now walk.now k) }
+    requires bounded { IsBounded bounded.now }
+    requires catalogue { IsCatalogue bounded.now catalogue.now }
+    requires walk { IsShortWalk bounded.now.bound bounded.now.graph.now walk.now }
+    requires span { extent.span ≡ span_of bounded.now.graph.now walk.now }
+    requires work { extent.work ≡ work bounded.now.graph.now walk.now }
+    requires edge { k < out_degree bounded.now.graph.now (last_in walk.now) }
+    ensures { IfOk result (λ is. IsTrue is ↔ IsExtendedBy bounded.now.bound bounded.now.graph.now catalogue.now.tree.now walk.now k) }
 {
-    graph.keep_limits();
-    let edge = *graph.out_edge(last_in(walk), k);
+    bounded.graph.keep_limits();
+    let edge = *bounded.graph.out_edge(last_in(walk), k);
     let span = extent.span + edge.sep as u64;
-    if span >= bound as u64 {
+    if span >= bounded.bound as u64 {
         return Ok(true);
     }
-    let work = extent.work + graph.vertex(edge.to).wcet as u64;
+    let work = extent.work + bounded.graph.vertex(edge.to).wcet as u64;
     let longer = extended(alloc, walk, edge.to)?;
     Ok(has_above(
-        graph,
-        gaps,
-        bound,
-        tree.walks.as_slice(),
-        entries,
+        bounded,
+        catalogue,
         hints,
         longer.as_slice(),
         Extent { span, work },

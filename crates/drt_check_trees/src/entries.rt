@@ -1,36 +1,36 @@
 //! Walks of a tree in order, as many as dominate all of its walks, and the search for one that dominates a given walk.
-ghost use Rattle.std.specs.Prelude.{◌≡◌, ℕ, ◌↔◌, ◌<◌, ◌≤◌, [], All, Any, IfOk, IsTrue, length, slice_index_or};
-ghost use Rattle.std.specs.List.Sorted.{IsNonDecreasingBy};
-ghost use Rattle.drt_model.specs.Limits.{most_time};
+ghost use Rattle.std.specs.Prelude.{◌≡◌, ℕ, ◌↔◌, ◌<◌, ◌≤◌, [], Any, IfOk, IsTrue, length, slice_index_or};
 ghost use Rattle.drt_model.specs.Walk.{work};
-ghost use Rattle.drt_claims.specs.Trees.{IsShortWalk};
+ghost use Rattle.drt_claims.specs.Trees.{HasShortWalks, IsShortWalk};
 ghost use Rattle.drt_check_trees.specs.Asking.{AsksNoLess, AreWalkVertices, span_of};
-ghost use Rattle.drt_check_trees.specs.Entries.{AreWalkEntries, IsEntryOf, IsListed, IsWalkOver, last_in, order_of, rank_of};
-ghost use Rattle.drt_check_trees.specs.Gaps.{AreGaps};
+ghost use Rattle.drt_check_trees.specs.Entries.{AreInOrder, AreWalkEntries, IsCatalogue, IsEntryOf, IsListed, IsWalkOver, is_up_to, last_in};
+ghost use Rattle.drt_check_trees.specs.Gaps.{AreGaps, IsBounded};
 ghost use Rattle.drt_check_trees.specs.declared.entries.Entry.{Entry};
 
 use crate::asking::{Extent, asks_no_less, measure};
-use crate::gaps::next_offset;
+use crate::gaps::{Bounded, next_offset};
+use drt_claims::TreeClaim;
 use drt_graph::Graph;
-use drt_model::{Memory, Row};
+use drt_model::Memory;
 use std::alloc::Global;
+use std::cmp::Reverse;
 
-/// A walk by its number, with its span and its rank, by which walks are looked at, and a digest of its releases.
-#[derive(Clone, Copy)]
+/// A walk by its number. Entries stand in order of the last vertices, then from the greatest work on, then in order of the spans, and
+/// then by a digest of the releases, so that walks of the same releases stand together.
+#[derive(Clone, Copy, PartialEq, Eq, PartialOrd, Ord)]
 pub struct Entry {
-    pub rank: u64,
-    pub number: usize,
+    pub last: u32,
+    pub work: Reverse<u64>,
     pub span: u32,
     pub digest: u32,
+    pub number: usize,
 }
 
-// The rank of a walk of this last vertex and work.
-fn rank_of(last: u32, work: u64) -> u64
-    requires last { last < 96 }
-    requires work { work ≤ 1000000000000 }
-    ensures { result ≡ rank_of last work }
-{
-    1099511627776 * last as u64 + (1099511627775 - work)
+/// A tree with entries of walks that dominate all of its walks, in order.
+#[derive(Clone, Copy)]
+pub struct Catalogue<'a> {
+    pub tree: &'a TreeClaim,
+    pub entries: &'a [Entry],
 }
 
 /// The last vertex of a walk.
@@ -41,59 +41,44 @@ pub(crate) fn last_in(walk: &[u32]) -> u32
     walk[walk.len() - 1]
 }
 
-// Where an entry stands among others: by rank, then by span, and then by digest, so that walks of the same releases stand together.
-fn order_of(entry: &Entry) -> u128
-    ensures { result ≡ order_of entry.now }
+/// The walk of the tree that has this number.
+pub(crate) fn walk_at(tree: &TreeClaim, number: usize) -> &[u32]
+    requires { number < length tree.now.walks }
+    ensures { result.now ≡ slice_index_or tree.now.walks number [] }
 {
-    18446744073709551616 * entry.rank as u128
-        + 4294967296 * entry.span as u128
-        + entry.digest as u128
+    tree.walks.as_slice()[number].as_slice()
 }
 
 /// Entries of walks that dominate all walks, in order. A walk has none where the walk kept before it dominates it: so of walks of the
 /// same releases, which stand together by their digests, one is looked at and not all.
 pub(crate) fn entries_of(
     alloc: Global,
-    graph: &Graph,
-    gaps: &[u32],
-    bound: u32,
-    walks: &[Row<u32>],
+    bounded: &Bounded<'_>,
+    tree: &TreeClaim,
 ) -> Result<Vec<Entry>, Memory>
-    requires gaps { AreGaps graph.now gaps.now }
-    requires bound { bound ≤ most_time }
-    requires short { All (IsShortWalk bound graph.now) walks.now }
-    ensures { IfOk result (λ entries. AreWalkEntries bound graph.now walks.now entries.items) }
+    requires bounded { IsBounded bounded.now }
+    requires short { HasShortWalks bounded.now.bound bounded.now.graph.now tree.now }
+    ensures { IfOk result (λ entries. AreWalkEntries bounded.now.bound bounded.now.graph.now tree.now.walks entries.items) }
 {
-    let mut entries = listed(alloc, graph, gaps, bound, walks)?;
-    entries.sort_unstable_by_key(
-        |entry: &Entry| -> u128
-            ensures { result ≡ order_of entry.now }
-        { order_of(entry) },
-    );
-    Ok(thinned(graph, gaps, bound, walks, entries))
+    let mut entries = listed(alloc, bounded, tree)?;
+    entries.sort_unstable();
+    Ok(thinned(bounded, tree, entries))
 }
 
 // The entries without those whose walk the one kept before it dominates.
-fn thinned(
-    graph: &Graph,
-    gaps: &[u32],
-    bound: u32,
-    walks: &[Row<u32>],
-    all: Vec<Entry>,
-) -> Vec<Entry>
-    requires gaps { AreGaps graph.now gaps.now }
-    requires bound { bound ≤ most_time }
-    requires short { All (IsShortWalk bound graph.now) walks.now }
-    requires all { AreWalkEntries bound graph.now walks.now all.items }
-    ensures { AreWalkEntries bound graph.now walks.now result.items }
+fn thinned(bounded: &Bounded<'_>, tree: &TreeClaim, all: Vec<Entry>) -> Vec<Entry>
+    requires bounded { IsBounded bounded.now }
+    requires short { HasShortWalks bounded.now.bound bounded.now.graph.now tree.now }
+    requires all { AreWalkEntries bounded.now.bound bounded.now.graph.now tree.now.walks all.items }
+    ensures { AreWalkEntries bounded.now.bound bounded.now.graph.now tree.now.walks result.items }
 {
     let mut entries = all;
     let mut kept = 1;
     for i in 1..entries.len() {
         let entry = entries[i];
-        let walk = walks[entry.number].as_slice();
+        let walk = walk_at(tree, entry.number);
         let last = entries[kept - 1];
-        if !is_over(graph, gaps, bound, walks, last, walk, entry.span as u64) {
+        if !is_over(bounded, tree, last, walk, entry.span as u64) {
             entries[kept] = entry;
             kept += 1;
         }
@@ -103,66 +88,51 @@ fn thinned(
 }
 
 // Whether the walk of the entry dominates this one, of this span.
-fn is_over(
-    graph: &Graph,
-    gaps: &[u32],
-    bound: u32,
-    walks: &[Row<u32>],
-    entry: Entry,
-    walk: &[u32],
-    span: u64,
-) -> bool
-    requires gaps { AreGaps graph.now gaps.now }
-    requires bound { bound ≤ most_time }
-    requires short { All (IsShortWalk bound graph.now) walks.now }
-    requires entry { IsEntryOf graph.now walks.now entry }
-    requires walk { IsShortWalk bound graph.now walk.now }
-    requires span { span ≡ span_of graph.now walk.now }
-    ensures { IsTrue result ↔ IsWalkOver bound graph.now walk.now (slice_index_or walks.now entry.number []) }
+fn is_over(bounded: &Bounded<'_>, tree: &TreeClaim, entry: Entry, walk: &[u32], span: u64) -> bool
+    requires bounded { IsBounded bounded.now }
+    requires short { HasShortWalks bounded.now.bound bounded.now.graph.now tree.now }
+    requires entry { IsEntryOf bounded.now.graph.now tree.now.walks entry }
+    requires walk { IsShortWalk bounded.now.bound bounded.now.graph.now walk.now }
+    requires span { span ≡ span_of bounded.now.graph.now walk.now }
+    ensures { IsTrue result ↔ IsWalkOver bounded.now.bound bounded.now.graph.now walk.now (slice_index_or tree.now.walks entry.number []) }
 {
-    if last_in(walks[entry.number].as_slice()) != last_in(walk) {
+    if entry.last != last_in(walk) {
         return false;
     }
-    is_no_less(graph, gaps, bound, walks, entry, walk, span)
+    is_no_less(bounded, tree, entry, walk, span)
 }
 
 // An entry for each walk, by their numbers.
-fn listed(
-    alloc: Global,
-    graph: &Graph,
-    gaps: &[u32],
-    bound: u32,
-    walks: &[Row<u32>],
-) -> Result<Vec<Entry>, Memory>
-    requires gaps { AreGaps graph.now gaps.now }
-    requires bound { bound ≤ most_time }
-    requires short { All (IsShortWalk bound graph.now) walks.now }
-    ensures { IfOk result (λ entries. IsListed graph.now walks.now entries.items (length walks.now)) }
+fn listed(alloc: Global, bounded: &Bounded<'_>, tree: &TreeClaim) -> Result<Vec<Entry>, Memory>
+    requires bounded { IsBounded bounded.now }
+    requires short { HasShortWalks bounded.now.bound bounded.now.graph.now tree.now }
+    ensures { IfOk result (λ entries. IsListed bounded.now.graph.now tree.now.walks entries.items (length tree.now.walks)) }
 {
-    let mut entries = Vec::with_capacity(alloc, walks.len())?;
-    for i in 0..walks.len() {
-        entries.push(entry_of(graph, gaps, bound, walks[i].as_slice(), i))?;
+    let count = tree.walks.as_slice().len();
+    let mut entries = Vec::with_capacity(alloc, count)?;
+    for i in 0..count {
+        entries.push(entry_of(bounded, walk_at(tree, i), i))?;
     }
     Ok(entries)
 }
 
 // The entry of a walk that has this number.
-fn entry_of(graph: &Graph, gaps: &[u32], bound: u32, walk: &[u32], number: usize) -> Entry
-    requires gaps { AreGaps graph.now gaps.now }
-    requires bound { bound ≤ most_time }
-    requires short { IsShortWalk bound graph.now walk.now }
+fn entry_of(bounded: &Bounded<'_>, walk: &[u32], number: usize) -> Entry
+    requires bounded { IsBounded bounded.now }
+    requires short { IsShortWalk bounded.now.bound bounded.now.graph.now walk.now }
     ensures number { result.number ≡ number }
-    ensures rank { result.rank ≡ rank_of (last_in walk.now) (work graph.now walk.now) }
-    ensures span { result.span ≡ span_of graph.now walk.now }
-    ensures digest { result.digest < 4294967296 }
+    ensures last { result.last ≡ last_in walk.now }
+    ensures work { result.work.0 ≡ work bounded.now.graph.now walk.now }
+    ensures span { result.span ≡ span_of bounded.now.graph.now walk.now }
 {
-    graph.keep_limits();
-    let extent = measure(graph, gaps, walk);
+    bounded.graph.keep_limits();
+    let extent = measure(bounded.graph, bounded.gaps, walk);
     Entry {
-        rank: rank_of(last_in(walk), extent.work),
-        number,
+        last: last_in(walk),
+        work: Reverse(extent.work),
         span: extent.span as u32,
-        digest: digest_of(graph, gaps, walk),
+        digest: digest_of(bounded.graph, bounded.gaps, walk),
+        number,
     }
 }
 
@@ -170,7 +140,6 @@ fn entry_of(graph: &Graph, gaps: &[u32], bound: u32, walk: &[u32], number: usize
 fn digest_of(graph: &Graph, gaps: &[u32], walk: &[u32]) -> u32
     requires gaps { AreGaps graph.now gaps.now }
     requires within { AreWalkVertices graph.now walk.now }
-    ensures { result < 4294967296 }
 {
     graph.keep_limits();
     let mut digest = 2166136261;
@@ -182,74 +151,90 @@ fn digest_of(graph: &Graph, gaps: &[u32], walk: &[u32]) -> u32
 }
 
 // The digest with one more number mixed in (FNV-1a, by words).
-fn mixed(digest: u32, value: u32) -> u32
-    ensures { result < 4294967296 }
-{
+fn mixed(digest: u32, value: u32) -> u32 {
     (digest ^ value).wrapping_mul(16777619)
 }
 
-// How many entries stand before the first of this rank or a later one.
-fn first_from(entries: &[Entry], rank: u64) -> usize
-    requires { IsNonDecreasingBy (λ e. e.rank) entries.now }
+// How many entries are of walks to lower vertices.
+fn first_to(entries: &[Entry], last: u32) -> usize
+    requires { AreInOrder entries.now }
     ensures within { result ≤ length entries.now }
-    ensures before { (k : ℕ) (d : Entry) → k < result → (slice_index_or entries.now k d).rank < rank }
-    ensures after { (k : ℕ) (d : Entry) → result ≤ k → k < length entries.now → rank ≤ (slice_index_or entries.now k d).rank }
+    ensures before { (k : ℕ) (d : Entry) → k < result → (slice_index_or entries.now k d).last < last }
+    ensures after { (k : ℕ) (d : Entry) → result ≤ k → k < length entries.now → last ≤ (slice_index_or entries.now k d).last }
 {
-    entries.partition_point(|entry| entry.rank < rank)
+    entries.partition_point(|entry| entry.last < last)
+}
+
+// How many entries are of walks to lower vertices, or to this one with at least this work.
+fn first_below(entries: &[Entry], last: u32, work: u64) -> usize
+    requires { AreInOrder entries.now }
+    ensures within { result ≤ length entries.now }
+    ensures before { (k : ℕ) (d : Entry) → k < result → (slice_index_or entries.now k d).last ≤ last }
+    ensures after { (k : ℕ) (d : Entry) → result ≤ k → k < length entries.now → (slice_index_or entries.now k d).last ≡ last → (slice_index_or entries.now k d).work.0 < work }
+{
+    entries.partition_point(
+        |entry: &Entry| -> bool
+            ensures { result ≡ is_up_to last work entry.now }
+        { is_up_to(entry, last, work) },
+    )
+}
+
+// Whether the entry is of a walk to a lower vertex, or to this one with at least this work.
+fn is_up_to(entry: &Entry, last: u32, work: u64) -> bool
+    ensures { result ≡ is_up_to last work entry.now }
+{
+    if entry.last == last {
+        entry.work.0 >= work
+    } else {
+        entry.last < last
+    }
 }
 
 // Whether the walk of the entry spans no more than the other one, and asks at no time for less.
 fn is_no_less(
-    graph: &Graph,
-    gaps: &[u32],
-    bound: u32,
-    walks: &[Row<u32>],
+    bounded: &Bounded<'_>,
+    tree: &TreeClaim,
     entry: Entry,
     other: &[u32],
     span: u64,
 ) -> bool
-    requires gaps { AreGaps graph.now gaps.now }
-    requires bound { bound ≤ most_time }
-    requires short { All (IsShortWalk bound graph.now) walks.now }
-    requires entry { IsEntryOf graph.now walks.now entry }
-    requires other { IsShortWalk bound graph.now other.now }
-    ensures { IsTrue result ↔ (entry.span ≤ span) × AsksNoLess bound graph.now other.now (slice_index_or walks.now entry.number []) }
+    requires bounded { IsBounded bounded.now }
+    requires short { HasShortWalks bounded.now.bound bounded.now.graph.now tree.now }
+    requires entry { IsEntryOf bounded.now.graph.now tree.now.walks entry }
+    requires other { IsShortWalk bounded.now.bound bounded.now.graph.now other.now }
+    ensures { IsTrue result ↔ (entry.span ≤ span) × AsksNoLess bounded.now.bound bounded.now.graph.now other.now (slice_index_or tree.now.walks entry.number []) }
 {
-    graph.keep_limits();
+    bounded.graph.keep_limits();
     if entry.span as u64 > span {
         return false;
     }
-    asks_no_less(graph, gaps, bound, walks[entry.number].as_slice(), other)
+    let walk = walk_at(tree, entry.number);
+    asks_no_less(bounded.graph, bounded.gaps, bounded.bound, walk, other)
 }
 
 // Whether there is an entry at this place whose walk dominates this one, of this span.
 fn is_over_at(
-    graph: &Graph,
-    gaps: &[u32],
-    bound: u32,
-    walks: &[Row<u32>],
-    entries: &[Entry],
+    bounded: &Bounded<'_>,
+    catalogue: &Catalogue<'_>,
     place: usize,
     walk: &[u32],
     span: u64,
 ) -> bool
-    requires gaps { AreGaps graph.now gaps.now }
-    requires bound { bound ≤ most_time }
-    requires short { All (IsShortWalk bound graph.now) walks.now }
-    requires entries { AreWalkEntries bound graph.now walks.now entries.now }
-    requires walk { IsShortWalk bound graph.now walk.now }
-    requires span { span ≡ span_of graph.now walk.now }
-    ensures { IsTrue result → Any (IsWalkOver bound graph.now walk.now) walks.now }
+    requires bounded { IsBounded bounded.now }
+    requires catalogue { IsCatalogue bounded.now catalogue.now }
+    requires walk { IsShortWalk bounded.now.bound bounded.now.graph.now walk.now }
+    requires span { span ≡ span_of bounded.now.graph.now walk.now }
+    ensures { IsTrue result → Any (IsWalkOver bounded.now.bound bounded.now.graph.now walk.now) catalogue.now.tree.now.walks }
 {
-    place < entries.len() && is_over(graph, gaps, bound, walks, entries[place], walk, span)
+    let entries = catalogue.entries;
+    place < entries.len() && is_over(bounded, catalogue.tree, entries[place], walk, span)
 }
 
 // The place of the last entry that stands no later than this one. If a walk of the same releases is among those of a tree, the entry
 // there is its own, or it was left out for that one.
 fn last_until(entries: &[Entry], own: &Entry) -> usize {
-    let order = order_of(own);
     entries
-        .partition_point(|entry| order_of(entry) <= order)
+        .partition_point(|entry| entry <= own)
         .saturating_sub(1)
 }
 
@@ -258,55 +243,43 @@ fn last_until(entries: &[Entry], own: &Entry) -> usize {
 /// releases, which is there where the walk itself is among the others. At last, of those with its last vertex and at least its work, it
 /// looks at those with the least work first.
 pub(crate) fn has_above(
-    graph: &Graph,
-    gaps: &[u32],
-    bound: u32,
-    walks: &[Row<u32>],
-    entries: &[Entry],
+    bounded: &Bounded<'_>,
+    catalogue: &Catalogue<'_>,
     hints: &mut [usize; 96],
     walk: &[u32],
     extent: Extent,
 ) -> bool
-    requires gaps { AreGaps graph.now gaps.now }
-    requires bound { bound ≤ most_time }
-    requires short { All (IsShortWalk bound graph.now) walks.now }
-    requires entries { AreWalkEntries bound graph.now walks.now entries.now }
-    requires walk { IsShortWalk bound graph.now walk.now }
-    requires span { extent.span ≡ span_of graph.now walk.now }
-    requires work { extent.work ≡ work graph.now walk.now }
-    ensures { IsTrue result ↔ Any (IsWalkOver bound graph.now walk.now) walks.now }
+    requires bounded { IsBounded bounded.now }
+    requires catalogue { IsCatalogue bounded.now catalogue.now }
+    requires walk { IsShortWalk bounded.now.bound bounded.now.graph.now walk.now }
+    requires span { extent.span ≡ span_of bounded.now.graph.now walk.now }
+    requires work { extent.work ≡ work bounded.now.graph.now walk.now }
+    ensures { IsTrue result ↔ Any (IsWalkOver bounded.now.bound bounded.now.graph.now walk.now) catalogue.now.tree.now.walks }
 {
-    graph.keep_limits();
+    bounded.graph.keep_limits();
+    let entries = catalogue.entries;
     let last = last_in(walk);
     let span = extent.span;
-    if is_over_at(
-        graph,
-        gaps,
-        bound,
-        walks,
-        entries,
-        hints[last as usize],
-        walk,
-        span,
-    ) {
+    if is_over_at(bounded, catalogue, hints[last as usize], walk, span) {
         return true;
     }
     let own = Entry {
-        rank: rank_of(last, extent.work),
-        number: 0,
+        last,
+        work: Reverse(extent.work),
         span: span as u32,
-        digest: digest_of(graph, gaps, walk),
+        digest: digest_of(bounded.graph, bounded.gaps, walk),
+        number: usize::MAX,
     };
     let alike = last_until(entries, &own);
-    if is_over_at(graph, gaps, bound, walks, entries, alike, walk, span) {
+    if is_over_at(bounded, catalogue, alike, walk, span) {
         hints[last as usize] = alike;
         return true;
     }
-    let from = first_from(entries, 1099511627776 * last as u64);
-    let mut k = first_from(entries, own.rank + 1);
+    let from = first_to(entries, last);
+    let mut k = first_below(entries, last, extent.work);
     while k > from {
         k -= 1;
-        if is_no_less(graph, gaps, bound, walks, entries[k], walk, span) {
+        if is_no_less(bounded, catalogue.tree, entries[k], walk, span) {
             hints[last as usize] = k;
             return true;
         }

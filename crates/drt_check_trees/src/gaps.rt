@@ -9,6 +9,14 @@ use drt_graph::Graph;
 use drt_model::Memory;
 use std::alloc::Global;
 
+/// A graph with its separations laid out, and the bound below which walks span.
+#[derive(Clone, Copy)]
+pub struct Bounded<'a> {
+    pub graph: &'a Graph,
+    pub gaps: &'a [u32],
+    pub bound: u32,
+}
+
 /// The separations of the graph's edges: 96 rows of 96 numbers, with 0 where there is no edge.
 pub(crate) fn gaps_of(alloc: Global, graph: &Graph) -> Result<Vec<u32>, Memory>
     ensures { IfOk result (λ gaps. AreGaps graph.now gaps.items) }

@@ -13,6 +13,13 @@ use std::thread::{Threads, available_parallelism};
 /// The most passes of one run.
 const MOST: usize = 16;
 
+// How passes are shared among workers: how often the first one was turned before, and how many each worker turns.
+#[derive(Clone, Copy)]
+struct Share {
+    turned: u64,
+    size: usize,
+}
+
 /// Turns each pass until it answers Stop. The caller turns the first pass alone for as many turns as the gate leaves it.
 /// Where it stops within them the caller turns the others too, one after another; else the passes are shared among workers, and
 /// the caller waits for them. There are no more workers than processors, or one for each pass where the gate leaves the caller no
@@ -96,21 +103,20 @@ fn turn_beside<W: Work, G: Gate, R: Threads + Wait + Sync>(
         turn_group(rt, work, gate, turned, 0, passes);
         return;
     }
-    turn_groups(rt, work, gate, turned, size, passes);
+    turn_groups(rt, work, gate, Share { turned, size }, passes);
 }
 
-// Turns passes, each `size` of them by a worker of their own, from the last on. The caller begins all workers and then waits for them: a new
-// thread may be put on the processor of who began it, and there it waits for as long as that one works.
+// Turns passes, each `share.size` of them by a worker of their own, from the last on. The caller begins all workers and then waits for
+// them: a new thread may be put on the processor of who began it, and there it waits for as long as that one works.
 #[cycle(groups)]
 fn turn_groups<W: Work, G: Gate, R: Threads + Wait + Sync>(
     rt: &R,
     work: &W,
     gate: &G,
-    turned: u64,
-    size: usize,
+    share: Share,
     passes: &mut [W::Pass],
 )
-    requires size { 0 < size }
+    requires size { 0 < share.size }
     requires count { length passes.old ≤ 16 }
     requires fits { EachPlace (W.fits work.now) passes.old }
     ensures count { length passes.new ≡ length passes.old }
@@ -118,9 +124,8 @@ fn turn_groups<W: Work, G: Gate, R: Threads + Wait + Sync>(
     ensures ended { EachPlace (W.ended work.now) passes.new }
 {
     if !passes.is_empty() {
-        let from = passes.len().saturating_sub(size);
-        let (first, last) = passes.split_at_mut(from);
-        turn_both(rt, work, gate, turned, size, first, from, last);
+        let (first, last) = passes.split_at_mut(passes.len().saturating_sub(share.size));
+        turn_both(rt, work, gate, share, first, last);
     }
 }
 
@@ -130,36 +135,34 @@ fn turn_both<W: Work, G: Gate, R: Threads + Wait + Sync>(
     rt: &R,
     work: &W,
     gate: &G,
-    turned: u64,
-    size: usize,
+    share: Share,
     first: &mut [W::Pass],
-    from: usize,
     last: &mut [W::Pass],
 )
-    requires size { 0 < size }
-    requires first_count { length first.old ≤ 16 }
-    requires last_places { from + length last.old ≤ 16 }
+    requires size { 0 < share.size }
+    requires count { length first.old + length last.old ≤ 16 }
     requires first_fits { EachPlace (W.fits work.now) first.old }
-    requires last_fits { EachPlace (λ i pass. W.fits work.now (from + i) pass) last.old }
+    requires last_fits { EachPlace (λ i pass. W.fits work.now (length first.old + i) pass) last.old }
     ensures first_count { length first.new ≡ length first.old }
     ensures first_fits { EachPlace (W.fits work.now) first.new }
     ensures first_ended { EachPlace (W.ended work.now) first.new }
     ensures last_count { length last.new ≡ length last.old }
-    ensures last_fits { EachPlace (λ i pass. W.fits work.now (from + i) pass) last.new }
-    ensures last_ended { EachPlace (λ i pass. W.ended work.now (from + i) pass) last.new }
+    ensures last_fits { EachPlace (λ i pass. W.fits work.now (length first.old + i) pass) last.new }
+    ensures last_ended { EachPlace (λ i pass. W.ended work.now (length first.old + i) pass) last.new }
 {
+    let from = first.len();
     let mut here = ||
-        requires { IsSync R.row × IsSync W.row × IsSync G.row × IsSend W.Pass.row × (0 < size) × (length first.now ≤ 16)
+        requires { IsSync R.row × IsSync W.row × IsSync G.row × IsSend W.Pass.row × (0 < share.size) × (length first.now ≤ 16)
             × EachPlace (W.fits work.now) first.now }
         ensures { (length first.exit.now ≡ length first.entry.now) × EachPlace (W.fits work.entry.now) first.exit.now
             × EachPlace (W.ended work.entry.now) first.exit.now }
-    { turn_groups(rt, work, gate, turned, size, first) };
+    { turn_groups(rt, work, gate, share, first) };
     let mut beside = ||
         requires { IsSync R.row × IsSync W.row × IsSync G.row × IsSend W.Pass.row × (from + length last.now ≤ 16)
             × EachPlace (λ i pass. W.fits work.now (from + i) pass) last.now }
         ensures { (length last.exit.now ≡ length last.entry.now) × EachPlace (λ i pass. W.fits work.entry.now (from + i) pass) last.exit.now
             × EachPlace (λ i pass. W.ended work.entry.now (from + i) pass) last.exit.now }
-    { turn_group(rt, work, gate, turned, from, last) };
+    { turn_group(rt, work, gate, share.turned, from, last) };
     thread::join_mut(rt, &mut beside, &mut here);
 }
 

@@ -1,5 +1,6 @@
 -- One event: what was kept before it is kept after it.
-use Rattle.std.proofs.Common.{◌≡◌, ℕ, ◌+◌, ◌-◌, ◌<◌, ◌≤◌, cond, eqb, [], List, length, get_or, set, All, Some, None, subst, arith}
+use Rattle.std.proofs.Common.{◌≡◌, ℕ, ◌+◌, ◌-◌, ◌<◌, ◌≤◌, cond, eqb, [], List, length, get_or, set, All, Some, None, ◌++◌, ap, drop, subst, sym, take, arith, ◌∙◌}
+use Rattle.std.proofs.Math.Seq.{take-append_seam}
 use Rattle.drt_model.specs.declared.jobs.Job.{Job}
 use Rattle.drt_model.specs.declared.jobs.Policy.{Policy}
 use Rattle.drt_model.specs.Trace.{job_at, pick}
@@ -10,6 +11,14 @@ use Rattle.drt_replay.specs.Events.{AreLater, IsCleared, IsFirstLeft, IsStretchF
 use Rattle.drt_replay.proofs.EventLemmas.{IsCalm, calm_up_to, runs_through, idle_through, jump_left, jump_finishes, idle_left, idle_finishes}
 use Rattle.drt_replay.proofs.BoardLemmas.{picked_in_range}
 use Rattle.drt_replay.proofs.PickLemmas.{queued_moved, queued_cleared, first_pick, no_pick, calm_before, queued_later, queued_idle}
+
+-- What stands in a vector of n items that was lent as a list, once xs is written to that list:
+abbrev pub lent : {X : Type 0} → ℕ → List X → List X → List X
+lent n xs ys = take n (xs ++ drop (length xs) ys)
+
+-- where xs is as long, it is xs.
+pub written : {X : Type 0} (n : ℕ) (xs ys : List X) → length xs ≡ n → lent n xs ys ≡ xs
+written n xs ys e = ap (λ k. take k (xs ++ drop (length xs) ys)) (sym e) ∙ take-append_seam xs (drop (length xs) ys)
 
 module _ (policy : Policy) (jobs : List Job) (now : ℕ) (lefts : List ℕ) (shown : IsLeft policy jobs now lefts) (w : List Stretch) (r : HeldKeys) (w' : List Stretch) (r' : HeldKeys)
     (before : IsQueued policy jobs now lefts w r) (moved : IsMoved policy jobs now w r w' r') where
@@ -38,8 +47,8 @@ module _ (policy : Policy) (jobs : List Job) (now : ℕ) (lefts : List ℕ) (sho
           run_left = jump_left policy jobs now lefts shown j count runs (calm count in_time) some enough
 
           pub run_picks : (i : ℕ) → now ≤ i → i < now + count → pick policy jobs i ≡ Some j
-          run_picks i from until = runs_through policy jobs now j runs count (calm count in_time)
-              (omega (arith, run_here, shown.as_many, shown.each j (omega (arith, run_here, shown.as_many)))) i from until
+          run_picks i from until =
+              runs_through policy jobs now j runs count (calm count in_time) (omega (arith, run_here, shown.as_many, shown.each j (omega (arith, run_here, shown.as_many)))) i from until
 
           pub run_finishes : (ends : List ℕ) → AreFinishes policy jobs now lefts ends
               → AreFinishes policy jobs (now + count) (set lefts j (get_or lefts j 0 - count)) (cond (eqb (get_or lefts j 0) count) (set ends j (now + count)) ends)

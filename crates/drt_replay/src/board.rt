@@ -5,28 +5,23 @@ ghost use Rattle.drt_model.specs.Misses.{IsJob, IsLeastMiss};
 ghost use Rattle.drt_model.specs.Schedulable.{jobs_of};
 ghost use Rattle.drt_model.specs.Trace.{job_at, pick};
 
-use crate::events::advance;
+use crate::events::{Progress, advance};
 use crate::jobs::Jobs;
 use crate::late::{earlier, index_of, is_late, place_of};
 use crate::made::{all_waiting, no_finishes};
 use crate::queue::Queue;
-use crate::stretch::Stretch;
 use drt_model::{Job, Memory, Miss, Policy, Release, TaskSet};
 use std::alloc::Global;
 use std::marker::Model;
 
 /// The tick machine on one list of jobs. Contracts see the policy, the jobs and how many ticks have run.
 ///
-/// It borrows the set and the releases, and makes each job where it needs it. It keeps what is left of each need, the finishes of
-/// the jobs with nothing left, the stretches of jobs that wait for their release, and the released ones in order of the policy.
+/// It borrows the set and the releases, and makes each job where it needs it.
 #[derive(Drop)]
 pub struct Board<'a> {
     policy: Policy,
     jobs: Jobs<'a>,
-    left: Vec<u64>,
-    finishes: Vec<u64>,
-    waiting: Vec<Stretch>,
-    ready: Queue,
+    progress: Progress,
     ticks: u64,
 }
 
@@ -37,7 +32,7 @@ impl<'a> Model for Board<'a> {
 
     ghost view = { λ b. record { policy = b.policy; jobs = b.jobs; ticks = b.ticks } };
 
-    ghost invariant = { λ b. IsBoardKept (record { policy = b.policy; jobs = b.jobs; ticks = b.ticks }) b.left.items b.finishes.items b.waiting.items b.ready };
+    ghost invariant = { λ b. IsBoardKept (record { policy = b.policy; jobs = b.jobs; ticks = b.ticks }) b.progress.left.items b.progress.finishes.items b.progress.waiting.items b.progress.ready };
 }
 
 impl<'a> Board<'a> {
@@ -63,10 +58,12 @@ impl<'a> Board<'a> {
         Ok(Board {
             policy,
             jobs,
-            left,
-            finishes,
-            waiting,
-            ready,
+            progress: Progress {
+                left,
+                finishes,
+                waiting,
+                ready,
+            },
             ticks: 0,
         })
     }
@@ -90,16 +87,7 @@ impl<'a> Board<'a> {
         ensures in_time { self.new.ticks ≤ t }
         ensures ran { (i : ℕ) → self.old.ticks ≤ i → i < self.new.ticks → pick self.old.policy self.old.jobs i ≡ result }
     {
-        let run = advance(
-            self.policy,
-            &self.jobs,
-            &mut self.left,
-            &mut self.finishes,
-            &mut self.waiting,
-            &mut self.ready,
-            self.ticks,
-            t,
-        );
+        let run = advance(self.policy, &self.jobs, &mut self.progress, self.ticks, t);
         self.ticks = run.until;
         run.job
     }
@@ -155,10 +143,10 @@ impl<'a> Board<'a> {
         requires { j < length self.now.jobs }
         ensures { IsFinishSoFar self.now.policy self.now.jobs self.now.ticks j result }
     {
-        if self.left[j] > 0 {
+        if self.progress.left[j] > 0 {
             return None;
         }
-        Some(self.finishes[j])
+        Some(self.progress.finishes[j])
     }
 
     // The place of the first job that is late by now.

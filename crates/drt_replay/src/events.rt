@@ -10,6 +10,16 @@ use crate::queue::{Key, Queue};
 use crate::stretch::Stretch;
 use drt_model::Policy;
 
+/// How far the jobs have come: what is left of each need, the finishes of the jobs with nothing left, the stretches of jobs that wait
+/// for their release, and the released ones in order of the policy.
+#[derive(Drop)]
+pub struct Progress {
+    pub left: Vec<u64>,
+    pub finishes: Vec<u64>,
+    pub waiting: Vec<Stretch>,
+    pub ready: Queue,
+}
+
 /// A run of the processor on one job, or its rest: until so many ticks have run.
 #[derive(Debug, Clone, Copy, PartialEq, Eq)]
 pub struct Run {
@@ -18,33 +28,30 @@ pub struct Run {
 }
 
 /// Runs ticks up to the next event, at most until `t` have run: the place of the job that had them, and none where the processor is idle.
-pub fn advance(
-    policy: Policy,
-    jobs: &Jobs,
-    left: &mut [u64],
-    finishes: &mut [u64],
-    waiting: &mut [Stretch],
-    ready: &mut Queue,
-    ticks: u64,
-    t: u64,
-) -> Run
+pub fn advance(policy: Policy, jobs: &Jobs, progress: &mut Progress, ticks: u64, t: u64) -> Run
     requires ahead { ticks < t }
     requires needs { (j : ℕ) → j < length jobs.now → 1 ≤ (job_at jobs.now j).need }
-    requires left { IsLeft policy jobs.now ticks left.old }
-    requires finishes { AreFinishes policy jobs.now ticks left.old finishes.old }
-    requires queued { IsQueued policy jobs.now ticks left.old waiting.old ready.old }
+    requires left { IsLeft policy jobs.now ticks progress.old.left.items }
+    requires finishes { AreFinishes policy jobs.now ticks progress.old.left.items progress.old.finishes.items }
+    requires queued { IsQueued policy jobs.now ticks progress.old.left.items progress.old.waiting.items progress.old.ready }
     ensures forward { ticks < result.until }
     ensures in_time { result.until ≤ t }
     ensures ran { (i : ℕ) → ticks ≤ i → i < result.until → pick policy jobs.now i ≡ result.job }
-    ensures left { IsLeft policy jobs.now result.until left.new }
-    ensures finishes { AreFinishes policy jobs.now result.until left.new finishes.new }
-    ensures queued { IsQueued policy jobs.now result.until left.new waiting.new ready.new }
+    ensures left { IsLeft policy jobs.now result.until progress.new.left.items }
+    ensures finishes { AreFinishes policy jobs.now result.until progress.new.left.items progress.new.finishes.items }
+    ensures queued { IsQueued policy jobs.now result.until progress.new.left.items progress.new.waiting.items progress.new.ready }
 {
-    release(policy, jobs, waiting, ready, ticks);
-    let next = next_release(jobs, waiting, ticks, t);
-    match first_ready(ready, left) {
+    release(
+        policy,
+        jobs,
+        &mut progress.waiting,
+        &mut progress.ready,
+        ticks,
+    );
+    let next = next_release(jobs, &progress.waiting, ticks, t);
+    match first_ready(&mut progress.ready, &progress.left) {
         Some(j) => {
-            let count = run_job(left, finishes, j, ticks, next);
+            let count = run_job(&mut progress.left, &mut progress.finishes, j, ticks, next);
             Run {
                 until: ticks + count,
                 job: Some(j),

@@ -1,10 +1,11 @@
 -- The lists and the queue of an arena after a change of its nodes.
-use Rattle.std.proofs.Common.{◌≡◌, ◌≢◌, ℕ, suc, zero, ◌+◌, ◌<◌, ◌≤◌, ◌⊎◌, Bool, true, false, cond, Option, Some, None, List, [], ◌∷◌, ◌++◌, get_or, length, map, refl, sym, ap, ◌∙◌, subst, inl, inr, arith}
-use Rattle.std.specs.Prelude.{slice_get, replicate, ◌&&◌}
+use Rattle.std.proofs.Common.{◌≡◌, ◌≢◌, ℕ, suc, zero, ◌+◌, ◌<◌, ◌≤◌, ◌⊎◌, Bool, true, false, cond, Option, Some, None, List}
+use Rattle.std.proofs.Common.{[], ◌∷◌, ◌++◌, get_or, length, map, refl, set, sym, ap, ◌∙◌, subst, inl, inr, arith}
+use Rattle.std.specs.Prelude.{slice_get, slice_set, replicate, ◌&&◌}
 use Rattle.std.specs.List.{Contains}
 use Rattle.std.specs.BinaryHeap.{IsHeap}
 use Rattle.std.specs.List.Sorted.{IsPermutation}
-use Rattle.std.proofs.lemmas.List.{length_push, length-map}
+use Rattle.std.proofs.lemmas.List.{length_push, length-map, length-set}
 use Rattle.std.proofs.lemmas.List.Elements.{Contains-append_left, Contains-push}
 use Rattle.std.proofs.lemmas.Option.{none-some, same_Some, slice_get_read, slice_get_within}
 use Rattle.drt_label.specs.Algebra.{Algebra}
@@ -14,10 +15,11 @@ use Rattle.drt_table.specs.declared.node.NodeState.TheVariants.{Pending, Taken, 
 use Rattle.drt_worklist.specs.Places.{first, changed}
 use Rattle.drt_table.specs.Earliest.{earliest}
 use Rattle.drt_table.specs.Held.{take_by, close_node, drop_held, dominates_held, fresh_held, held_offset, compared_nodes, placed_nodes}
-use Rattle.drt_table.specs.Arena.{AreArranged, Stock}
+use Rattle.drt_table.specs.Arena.{AreArranged, HasNodes, Stock}
 use Rattle.drt_table.specs.Links.{IsNext, AreLinked}
 use Rattle.drt_table.specs.Waiting.{Ticket, ticket_cmp, AreWaiting, IsFresh, AreHeld}
 use Rattle.drt_worklist.proofs.Lists.{Before, before_change, After, after_change, changed_at, length-changed}
+use Rattle.drt_worklist.proofs.Writes.{changed_set}
 use Rattle.drt_worklist.proofs.Views.{Pushed, earlier, last, before_push, after_push}
 use Rattle.drt_table.proofs.Linking.{StaysKept, changed_linked, at_pushed, get_pushed}
 use Rattle.drt_table.proofs.Tickets.{StayWaiting, still_waiting, popped_ticket, at_contains, contains_at}
@@ -49,6 +51,13 @@ module _ (n m from : ℕ) (from_is : from ≡ n) where
 abbrev pub HasNode : {L : Type 0} → (Held L → Type 0) → List (Held L) → ℕ → Type 0
 HasNode {L} P nodes id = (h : Held L) × (slice_get nodes id ≡ Some h) × P h
 
+-- node id, which was h, is changed to y, as f has it: what each answer there rests on
+pub record Changing {L : Type 0} (v x : Stock L) (id : ℕ) (f : Held L → Held L) (h y : Held L) : Type 0 where
+  pub at : slice_get v.nodes id ≡ Some h
+  pub nodes_are : slice_set v.nodes id y ≡ changed id f v.nodes
+  pub count : length (slice_set v.nodes id y) ≡ length v.nodes
+  pub has : HasNodes x (record v { nodes = slice_set v.nodes id y }) (changed id f x.nodes)
+
 -- the arena's nodes are these, and contracts see the arena as x: the node that is read at the number
 module _ {L : Type 0} (P : Held L → Type 0) (v x : Stock L) (same : v ≡ x) (id : ℕ) (can : HasNode P x.nodes id) where
   pub has_node : HasNode P v.nodes id
@@ -62,6 +71,17 @@ module _ {L : Type 0} (P : Held L → Type 0) (v x : Stock L) (same : v ≡ x) (
 
   pub node_has : (h : Held L) → h ≡ get_or v.nodes id h → P h
   node_has h is = subst P (same_Some has_node.0 h (sym has_node.1 ∙ node_at h is)) has_node.2
+
+  pub changing : (h : Held L) → h ≡ get_or v.nodes id h → (f : Held L → Held L) (y : Held L) → y ≡ f h → Changing v x id f h y
+  changing h is f y e =
+      let nodes : slice_set v.nodes id y ≡ changed id f v.nodes = ap (λ z. set v.nodes id z) e ∙ sym (changed_set f v.nodes id h (node_at h is)) in
+      let new : Stock L = record v { nodes = slice_set v.nodes id y } in
+      record {
+        at = node_at h is;
+        nodes_are = nodes;
+        count = length-set v.nodes id y;
+        has = subst (λ (z : Stock L). HasNodes z new (changed id f z.nodes)) same (record { nodes_are = nodes; vertices = refl; room = refl });
+      }
 
 -- the nodes are these, with others after them; none of them is newly taken
 pub record StayHeld {L : Type 0} (nodes later : List (Held L)) : Type 0 where
@@ -93,8 +113,8 @@ module _ {L : Type 0} (f : Held L → Held L) (k : ℕ) (nodes : List (Held L)) 
       back : (j : ℕ) (y : Held L) → Before k f nodes j y → (x : Held L) × (slice_get nodes j ≡ Some x) × (y.node.label ≡ x.node.label) × (is_node_pending y.node ≡ true → is_node_pending x.node ≡ true)
       back j y b = by_case b.is
         where
-          by_case : ((j ≡ k) × (y ≡ f b.old)) ⊎ (y ≡ b.old) → (x : Held L) × (slice_get nodes j ≡ Some x) × (y.node.label ≡ x.node.label)
-              × (is_node_pending y.node ≡ true → is_node_pending x.node ≡ true)
+          by_case : ((j ≡ k) × (y ≡ f b.old)) ⊎ (y ≡ b.old)
+              → (x : Held L) × (slice_get nodes j ≡ Some x) × (y.node.label ≡ x.node.label) × (is_node_pending y.node ≡ true → is_node_pending x.node ≡ true)
           by_case (inl p) = (b.old, b.at, ap (λ (z : Held L). z.node.label) p.1 ∙ calms.label b.old, λ t. calms.pending b.old (ap (λ (z : Held L). is_node_pending z.node) (sym p.1) ∙ t))
           by_case (inr e) = (b.old, b.at, ap (λ (z : Held L). z.node.label) e, λ t. ap (λ (z : Held L). is_node_pending z.node) (sym e) ∙ t)
 
@@ -190,8 +210,9 @@ module _ {L : Type 0} (a : Algebra L) (l : L) (parent deadline bound : ℕ) (xs 
   drops_calmly number h true = (refl, λ t. absurd (cc), λ t. absurd (cc))
   drops_calmly number h false = (refl, λ t. t, λ t. t)
 
-  drop_calms : (h : Held L) → ((drop_held a l (length xs) h).node.label ≡ h.node.label)
-      × (is_node_pending (drop_held a l (length xs) h).node ≡ true → is_node_pending h.node ≡ true) × (is_taken (drop_held a l (length xs) h).node ≡ true → is_taken h.node ≡ true)
+  drop_calms : (h : Held L)
+      → ((drop_held a l (length xs) h).node.label ≡ h.node.label) × (is_node_pending (drop_held a l (length xs) h).node ≡ true → is_node_pending h.node ≡ true)
+      × (is_taken (drop_held a l (length xs) h).node ≡ true → is_taken h.node ≡ true)
   drop_calms h = drops_calmly (length xs) h (is_kept h.node && a.dominates l h.node.label)
 
   added_stays : StayWaiting xs (map (drop_held a l (length xs)) xs ++ fresh_held l (Some parent) ∷ [])
@@ -200,8 +221,8 @@ module _ {L : Type 0} (a : Algebra L) (l : L) (parent deadline bound : ℕ) (xs 
     back = λ k y lt at. by_place k y lt (before_push (drop_held a l (length xs)) xs (fresh_held l (Some parent)) k y at);
   }
     where
-      by_place : (k : ℕ) (y : Held L) → k < length xs → Pushed (drop_held a l (length xs)) xs (fresh_held l (Some parent)) k y → (x : Held L) × (slice_get xs k ≡ Some x)
-          × (y.node.label ≡ x.node.label) × (is_node_pending y.node ≡ true → is_node_pending x.node ≡ true)
+      by_place : (k : ℕ) (y : Held L) → k < length xs → Pushed (drop_held a l (length xs)) xs (fresh_held l (Some parent)) k y
+          → (x : Held L) × (slice_get xs k ≡ Some x) × (y.node.label ≡ x.node.label) × (is_node_pending y.node ≡ true → is_node_pending x.node ≡ true)
       by_place k y lt (earlier x at e less) = (x, at, ap (λ (h : Held L). h.node.label) e ∙ (drop_calms x).0, λ t. (drop_calms x).1 (ap (λ (h : Held L). is_node_pending h.node) (sym e) ∙ t))
       by_place k y lt (last e is) = absurd (omega arith)
 
@@ -294,8 +315,8 @@ module _ {L : Type 0} (a : Algebra L) (nodes : List (Held L)) (links heads : Lis
       → AreWaiting a (changed id (take_by w) nodes) rest (length (changed id (take_by w) nodes))
   taken_waiting rest t at is_next perm =
       let same : t.0.1 ≡ id = same_Some t.0.1 id (is_next ∙ sym next) in
-      let here : slice_get (changed id (take_by w) nodes) t.0.1 ≡ Some (take_by w found.item) = ap (λ k. slice_get (changed id (take_by w) nodes) k) same
-      ∙ changed_at id (take_by w) nodes found.item found.at in
+      let here : slice_get (changed id (take_by w) nodes) t.0.1 ≡ Some (take_by w found.item) =
+      ap (λ k. slice_get (changed id (take_by w) nodes) k) same ∙ changed_at id (take_by w) nodes found.item found.at in
       popped_ticket a (changed id (take_by w) nodes) tickets rest (length (changed id (take_by w) nodes)) t (take_by w found.item)
       (subst (λ n. AreWaiting a (changed id (take_by w) nodes) tickets n) (sym (length-changed id (take_by w) nodes))
       (still_waiting a nodes (changed id (take_by w) nodes) tickets (change_stays (take_by w) id nodes (take_calms w)) ok.waiting)) here refl perm

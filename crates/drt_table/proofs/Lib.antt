@@ -30,3 +30,4 @@ pub mod Telling
 pub mod Arranged
 pub mod Offering
 pub mod Turning
+pub mod Next

@@ -1,7 +1,7 @@
 -- The walk along the list of a vertex that looks for the least node that dominates a label.
 use Rattle.std.proofs.Common.{◌≡◌, ℕ, ◌<◌, ◌≤◌, ◌⊎◌, Bool, true, false, Option, Some, None, List, length, refl, sym, ap, ◌∙◌, subst, inl, inr, arith}
-use Rattle.std.specs.Prelude.{slice_get, IsTrue, min, ◌&&◌}
-use Rattle.std.proofs.lemmas.Option.{none-some, same_Some, slice_get_within}
+use Rattle.std.specs.Prelude.{slice_get, slice_index_or, IsTrue, min, ◌&&◌}
+use Rattle.std.proofs.lemmas.Option.{none-some, same_Some, slice_get_within, slice_get-get_or}
 use Rattle.drt_label.specs.Algebra.{Algebra, Laws}
 use Rattle.drt_table.specs.Node.{Held, is_kept}
 use Rattle.drt_worklist.specs.Places.{first}
@@ -178,3 +178,28 @@ module _ {L : Type 0} (a : Algebra L) (laws : Laws a) (l : L) (nodes : List (Hel
           by_case : (k : ℕ) (h : Held L) → slice_get nodes k ≡ Some h → dominates_held a l h ≡ true → IsAhead a nodes (Some i) k h ⊎ IsUpto least k → IsUpto least k
           by_case k h at_h t (inl ahead) = absurd (ahead_not k h at_h t ahead)
           by_case k h at_h t (inr upto) = upto
+
+-- the walk stands at node i: what each answer there rests on
+pub record Seeking {L : Type 0} (a : Algebra L) (l : L) (nodes : List (Held L)) (links : List (Option ℕ)) (next least : Option ℕ) (i : ℕ) : Type 0 where
+  pub sought : IsSought a l nodes (Some i) least
+  pub within : i < length nodes
+  pub linked : i < length links
+  pub link : slice_get links i ≡ Some (slice_index_or links i None)
+  pub less : to_go a nodes (slice_index_or links i None) < to_go a nodes next
+
+pub seeking : {L : Type 0} (a : Algebra L) (laws : Laws a) (l : L) (nodes : List (Held L)) (links heads : List (Option ℕ)) → AreLinked a nodes links heads
+    → (next least : Option ℕ) → IsSought a l nodes next least → (i : ℕ) → next ≡ Some i → Seeking a l nodes links next least i
+seeking {L} a laws l nodes links heads ok next least s i e =
+    let sought : IsSought a l nodes (Some i) least = subst (λ o. IsSought a l nodes o least) e s in
+    let within : i < length nodes = seek_within a laws l nodes links heads ok next least s i e in
+    let linked : i < length links = subst (λ (m : ℕ). i < m) (sym ok.as_many) within in
+    let o : Option ℕ = slice_index_or links i None in
+    let link : slice_get links i ≡ Some o = slice_get-get_or links i None linked in
+    let h = s.next_ok i e in
+    record {
+      sought = sought;
+      within = within;
+      linked = linked;
+      link = link;
+      less = subst (λ q. to_go a nodes o < to_go a nodes q) (sym e) (seek_less a laws l nodes links heads ok i least sought h.0 h.1.at o link);
+    }

@@ -1,7 +1,7 @@
 -- The walk along the list of a vertex that drops what the label dominates.
 use Rattle.std.proofs.Common.{◌≡◌, ℕ, ◌+◌, ◌<◌, ◌≤◌, ◌⊎◌, Bool, true, false, Option, Some, None, List, length, map, refl, sym, ap, ◌∙◌, subst, inl, inr, arith}
-use Rattle.std.specs.Prelude.{slice_get, IsTrue, option_map, ◌&&◌}
-use Rattle.std.proofs.lemmas.Option.{none-some, same_Some, slice_get_within, slice_get-map}
+use Rattle.std.specs.Prelude.{slice_get, slice_index_or, IsTrue, option_map, ◌&&◌}
+use Rattle.std.proofs.lemmas.Option.{none-some, same_Some, slice_get_within, slice_get-map, slice_get-get_or}
 use Rattle.drt_label.specs.Algebra.{Algebra, Laws}
 use Rattle.drt_table.specs.Node.{Held, is_kept}
 use Rattle.drt_worklist.specs.Places.{changed}
@@ -52,8 +52,8 @@ sweep_start {L} a laws l number xs links heads linked next head = record {
       }),
     )
 
-module _ {L : Type 0} (a : Algebra L) (laws : Laws a) (l : L) (number : ℕ) (xs ns : List (Held L)) (links heads : List (Option ℕ)) (last next : Option ℕ)
-    (s : IsSwept a l number xs ns links heads last next) where
+module _ {L : Type 0} (a : Algebra L) (laws : Laws a) (l : L) (number : ℕ) (xs ns : List (Held L)) (links heads : List (Option ℕ))
+    (last next : Option ℕ) (s : IsSwept a l number xs ns links heads last next) where
   label_at : (k : ℕ) (h z : Held L) → slice_get ns k ≡ Some h → IsPassed a l number xs ns next k z → h.node.label ≡ z.node.label
   label_at k h z at (inl e) = ap (λ (y : Held L). y.node.label) (same_Some h (drop_held a l number z) (sym at ∙ e)) ∙ drop_label a l number z
   label_at k h z at (inr e) = ap (λ (y : Held L). y.node.label) (same_Some h z (sym at ∙ e.0))
@@ -126,8 +126,8 @@ module _ {L : Type 0} (a : Algebra L) (laws : Laws a) (l : L) (number : ℕ) (xs
     rest m None e n k h is b = absurd (n k h is b)
     rest m (Some i) e n k h is b =
         let le : rank a k h ≤ rank a i n.held = n.most k h is b in
-        let no : a.offset h.node.label ≤ a.offset n.held.node.label = no_greater (a.offset h.node.label) (a.offset n.held.node.label) k i
-        (small a ns s.linked.few (a.vertex l) k h is) (small a ns s.linked.few (a.vertex l) i n.held n.is) le in
+        let no : a.offset h.node.label ≤ a.offset n.held.node.label =
+        no_greater (a.offset h.node.label) (a.offset n.held.node.label) k i (small a ns s.linked.few (a.vertex l) k h is) (small a ns s.linked.few (a.vertex l) i n.held n.is) le in
         let less : a.offset n.held.node.label < a.offset l = stop i n.held e n.is.at in
         omega arith
 
@@ -155,8 +155,8 @@ last_within {L} a l number xs ns links heads last next s p e = subst (λ (n : �
     at (Some q) e after = subst (λ (n : ℕ). n < length ns) (same_Some q p e) (slice_get_within ns q after.0 after.1.at)
 
 -- one step, at node i
-module _ {L : Type 0} (a : Algebra L) (laws : Laws a) (l : L) (number : ℕ) (xs ns : List (Held L)) (links heads : List (Option ℕ)) (last : Option ℕ) (i : ℕ)
-    (s : IsSwept a l number xs ns links heads last (Some i))
+module _ {L : Type 0} (a : Algebra L) (laws : Laws a) (l : L) (number : ℕ) (xs ns : List (Held L)) (links heads : List (Option ℕ)) (last : Option ℕ)
+    (i : ℕ) (s : IsSwept a l number xs ns links heads last (Some i))
     (x : Held L) (at : slice_get ns i ≡ Some x) (o : Option ℕ) (link : slice_get links i ≡ Some o) where
   here : IsKeptAt a ns (a.vertex l) i x
   here =
@@ -253,8 +253,8 @@ module _ {L : Type 0} (a : Algebra L) (laws : Laws a) (l : L) (number : ℕ) (xs
 
     last_dropped : IsAfter a (changed i (drop_held a l number) ns) (a.vertex l) last o
     last_dropped = subst (λ v. IsAfter a (changed i (drop_held a l number) ns) v last o) here.vertex
-        (next_unlinked a ns links heads s.linked i x at here.kept o link (drop_held a l number) (gone a l number x drops_x) last
-        (subst (λ v. IsAfter a ns v last (Some i)) (sym here.vertex) s.last_is))
+        (next_unlinked a ns links heads s.linked i x at here.kept o link (drop_held a l number)
+        (gone a l number x drops_x) last (subst (λ v. IsAfter a ns v last (Some i)) (sym here.vertex) s.last_is))
 
     by_place : (k : ℕ) (z : Held L) → slice_get xs k ≡ Some z → (k ≡ i) ⊎ (k ≡ i → ⊥) → IsPassed a l number xs ns (Some i) k z → IsPassed a l number xs (changed i (drop_held a l number) ns) o k z
     by_place k z at_z (inl e) passed =
@@ -278,4 +278,35 @@ module _ {L : Type 0} (a : Algebra L) (laws : Laws a) (l : L) (number : ℕ) (xs
       early = s.early;
       none = λ k e. none_changed i (drop_held a l number) ns k (s.none k e);
       swept = λ k z at_z. by_place k z at_z (same_or_not k i) (s.swept k z at_z);
+    }
+
+-- the walk stands at node i: what each answer there rests on
+pub record Standing {L : Type 0} (a : Algebra L) (l : L) (number : ℕ) (xs ns : List (Held L)) (links heads : List (Option ℕ)) (last next : Option ℕ) (i : ℕ)
+    : Type 0 where
+  pub swept : IsSwept a l number xs ns links heads last (Some i)
+  pub within : i < length ns
+  pub linked : i < length links
+  pub at : (d : Held L) → slice_get ns i ≡ Some (slice_index_or ns i d)
+  pub link : slice_get links i ≡ Some (slice_index_or links i None)
+  pub less : to_go a xs (slice_index_or links i None) < to_go a xs next
+  pub of : (bound : ℕ) → AllOf (λ (h : Held L). IsTrue (a.is_of h.node.label bound)) xs → (d : Held L)
+      → IsTrue (a.is_of (slice_index_or ns i d).node.label bound)
+
+pub standing : {L : Type 0} (a : Algebra L) (laws : Laws a) (l : L) (number : ℕ) (xs ns : List (Held L)) (links heads : List (Option ℕ)) (last next : Option ℕ)
+    → IsSwept a l number xs ns links heads last next → (i : ℕ) → next ≡ Some i → Standing a l number xs ns links heads last next i
+standing {L} a laws l number xs ns links heads last next s i e =
+    let swept : IsSwept a l number xs ns links heads last (Some i) = subst (λ o. IsSwept a l number xs ns links heads last o) e s in
+    let within : i < length ns = swept_within a laws l number xs ns links heads last next s i e in
+    let linked : i < length links = subst (λ (m : ℕ). i < m) (sym s.linked.as_many) within in
+    let o : Option ℕ = slice_index_or links i None in
+    let link : slice_get links i ≡ Some o = slice_get-get_or links i None linked in
+    let h = stands_at a laws l number xs ns links heads last next s i e in
+    record {
+      swept = swept;
+      within = within;
+      linked = linked;
+      at = λ d. slice_get-get_or ns i d within;
+      link = link;
+      less = subst (λ q. to_go a xs o < to_go a xs q) (sym e) (sweep_less a laws l number xs ns links heads last i swept h.0 h.1.at o link);
+      of = λ bound all d. swept_of a laws l number xs ns links heads last next s bound all i (slice_index_or ns i d) (slice_get-get_or ns i d within);
     }

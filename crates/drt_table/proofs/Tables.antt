@@ -18,7 +18,8 @@ use Rattle.drt_table.specs.declared.step.Entry.{Entry}
 use Rattle.drt_worklist.specs.Places.{first, changed}
 use Rattle.drt_table.specs.Earliest.{earliest}
 use Rattle.drt_table.specs.Taking.{take_reply, taken_node, offset_of, is_soon}
-use Rattle.drt_table.specs.Machine.{Setting, State, Outcome, separation, in_range, extended, is_full, unchanged, logged, offset, offset_in, offset_at, next, holder, takes, taken, drop_by, dominating, added, compared, counted, offered, offered_at, step_of, CanStep, Holds, replay, IsRun, is_finished}
+use Rattle.drt_table.specs.Machine.{Setting, State, Outcome, separation, in_range, extended, is_full, unchanged, logged, offset, offset_in, offset_at, next, holder}
+use Rattle.drt_table.specs.Machine.{takes, taken, drop_by, dominating, added, compared, counted, offered, offered_at, step_of, CanStep, Holds, replay, IsRun, is_finished}
 use Rattle.drt_table.specs.Facts.{Facts}
 use Rattle.drt_table.specs.Links.{AreAlone}
 use Rattle.drt_table.specs.Held.{AllOf, held_offset, take_by, count_offer, close_node, hand_out, dominates_held, drop_held, compared_nodes, compared_reply, placed_nodes, placed_reply}
@@ -38,8 +39,10 @@ module _ {L : Type 0} (a : Algebra L) (laws : Laws a) (v : View L) (is : IsTable
   counts_of = subst (λ (s : State L). Counts (setting_of v) s) (sym is.state) (run_counts a (setting_of v) v.log)
 
   pub nodes_few : length v.nodes ≤ length v.graph.vertices + length v.log
-  nodes_few = let h : length (state_of v).nodes ≤ length v.graph.vertices + length v.log = counts_of.few in
-      let e : length (state_of v).nodes ≡ length v.nodes = length-map v.nodes (λ h. h.node) in omega arith
+  nodes_few =
+      let h : length (state_of v).nodes ≤ length v.graph.vertices + length v.log = counts_of.few in
+      let e : length (state_of v).nodes ≡ length v.nodes = length-map v.nodes (λ h. h.node) in
+      omega arith
 
   pub log_within : length v.log ≤ v.budget
   log_within = counts_of.within
@@ -95,7 +98,8 @@ module _ {L : Type 0} (a : Algebra L) (v : View L) where
   pub close_spent : (w id : ℕ) → v.budget ≤ length v.log → IsTableStep a v v w (Close id) Spent
   close_spent w id h = unchanged_step w (Close id) Spent
       (ap (λ b. cond b (unchanged a (setting_of v) (state_of v) Spent)
-      (logged a (setting_of v) (state_of v) (record { worker = w; step = Close id }) (changed id (λ n. record n { state = Done }) (state_of v).nodes) Closed)) (full h)) refl
+      (logged a (setting_of v) (state_of v) (record { worker = w; step = Close id })
+      (changed id (λ n. record n { state = Done }) (state_of v).nodes) Closed)) (full h)) refl
 
   pub close_closed : (new : View L) (w id : ℕ) → setting_of new ≡ setting_of v → new.nodes ≡ changed id close_node v.nodes
       → new.log ≡ v.log ++ record { worker = w; step = Close id } ∷ [] → length v.log < v.budget → IsTableStep a v new w (Close id) Closed
@@ -124,8 +128,8 @@ module _ {L : Type 0} (a : Algebra L) (v : View L) where
   taken_is s w None (Some h) false c e f = ap (λ x. cond x (unchanged a (setting_of v) s Spent) (unchanged a (setting_of v) s (Busy h))) e
   taken_is s w (Some k) None true c e f = ap (λ x. cond x (unchanged a (setting_of v) s Spent) (takes a (setting_of v) s w k)) e
   taken_is s w (Some k) None false c e f = ap (λ x. cond x (unchanged a (setting_of v) s Spent) (takes a (setting_of v) s w k)) e
-  taken_is s w (Some k) (Some h) true c e f = ap
-      (λ x. cond x (unchanged a (setting_of v) s Spent) (cond (soon_for s (Some k) (Some h)) (takes a (setting_of v) s w k) (unchanged a (setting_of v) s (Busy h)))) e
+  taken_is s w (Some k) (Some h) true c e f =
+      ap (λ x. cond x (unchanged a (setting_of v) s Spent) (cond (soon_for s (Some k) (Some h)) (takes a (setting_of v) s w k) (unchanged a (setting_of v) s (Busy h)))) e
   taken_is s w (Some k) (Some h) false true e f =
       ap (λ x. cond x (unchanged a (setting_of v) s Spent) (cond (soon_for s (Some k) (Some h)) (takes a (setting_of v) s w k) (unchanged a (setting_of v) s (Busy h)))) e
       ∙ ap (λ x. cond x (takes a (setting_of v) s w k) (unchanged a (setting_of v) s (Busy h))) f
@@ -214,8 +218,8 @@ module _ {L : Type 0} (a : Algebra L) (v : View L) where
       at_reply (Some i) (Some j) false false h = absurd (none-some k h)
 
   -- an offer
-  drop_node : (l : L) (n : ℕ) (h : Held L) (b : Bool) → (cond b (record h { node = record h.node { dropped_by = Some n; state = Done } }) h).node ≡ cond b
-      (record h.node { dropped_by = Some n; state = Done }) h.node
+  drop_node : (l : L) (n : ℕ) (h : Held L) (b : Bool)
+      → (cond b (record h { node = record h.node { dropped_by = Some n; state = Done } }) h).node ≡ cond b (record h.node { dropped_by = Some n; state = Done }) h.node
   drop_node l n h true = refl
   drop_node l n h false = refl
 
@@ -228,8 +232,7 @@ module _ {L : Type 0} (a : Algebra L) (v : View L) (w id k : ℕ) (l : L) where
   added-node : (xs : List (Held L)) → map (λ (h : Held L). h.node) (compared_nodes a l id xs None) ≡ added a (setting_of v) (map (λ (h : Held L). h.node) xs) id l
   added-node xs =
       map-append (λ (h : Held L). h.node) (map (drop_held a l (length xs)) xs) (record { node = fresh l (Some id); spare = true } ∷ [])
-      ∙ (ap (λ ys. ys ++ fresh l (Some id) ∷ [])
-      (map-map_with (λ (h : Held L). h.node) (drop_held a l (length xs)) (drop_by a (setting_of v) l (length xs))
+      ∙ (ap (λ ys. ys ++ fresh l (Some id) ∷ []) (map-map_with (λ (h : Held L). h.node) (drop_held a l (length xs)) (drop_by a (setting_of v) l (length xs))
       (λ h. drop_node a v l (length xs) h (is_kept h.node && a.dominates l h.node.label)) xs)
       ∙ ap (λ n. map (drop_by a (setting_of v) l n) (map (λ (h : Held L). h.node) xs) ++ fresh l (Some id) ∷ []) (sym (length-map xs (λ (h : Held L). h.node))))
 
@@ -248,8 +251,8 @@ module _ {L : Type 0} (a : Algebra L) (v : View L) (w id k : ℕ) (l : L) where
   placed_outcome e xs true (Some j) = refl
   placed_outcome e xs true None = logged_eq e _ _ _ _ (sym (added-node xs)) (ap (λ n. Added n) (length-map xs (λ (h : Held L). h.node)))
 
-  placed_spares : (xs : List (Held L)) (b : Bool) (o : Option ℕ) → map (λ (h : Held L). h.spare) (cond b (compared_nodes a l id xs o) xs) ≡ spares_after
-      (cond b (compared_reply xs o) OutOfRange) (map (λ (h : Held L). h.spare) xs)
+  placed_spares : (xs : List (Held L)) (b : Bool) (o : Option ℕ)
+      → map (λ (h : Held L). h.spare) (cond b (compared_nodes a l id xs o) xs) ≡ spares_after (cond b (compared_reply xs o) OutOfRange) (map (λ (h : Held L). h.spare) xs)
   placed_spares xs false o = refl
   placed_spares xs true (Some j) = refl
   placed_spares xs true None = added-spare xs
@@ -274,8 +277,8 @@ module _ {L : Type 0} (a : Algebra L) (v : View L) (w id k : ℕ) (l : L) where
       let ns : List (NodeOf L) = map node (cond b (compared_nodes a l id xs o) xs) in
       let q : TableReply = cond b (compared_reply xs o) OutOfRange in
       let at_node : slice_get s.nodes id ≡ Some x.node = slice_get-map node v.nodes id ∙ ap (λ y. option_map node y) at in
-      let step_1 : outcome a v w (Offer id k) ≡ offered_at a t s e id k (slice_get s.nodes id) = ap
-      (λ y. cond y (unchanged a t s Spent) (offered_at a t s e id k (slice_get s.nodes id))) (not_full a v h) in
+      let step_1 : outcome a v w (Offer id k) ≡ offered_at a t s e id k (slice_get s.nodes id) =
+      ap (λ y. cond y (unchanged a t s Spent) (offered_at a t s e id k (slice_get s.nodes id))) (not_full a v h) in
       let step_2 : offered_at a t s e id k (slice_get s.nodes id) ≡ offered a t s e id (extended a t x.node.label k) = ap (λ y. offered_at a t s e id k y) at_node in
       let step_3 : offered a t s e id (extended a t x.node.label k) ≡ offered a t s e id l = ap (λ y. offered a t s e id y) (sym l_is) in
       let step_4 : offered a t s e id l ≡ cond (in_range a t l) (compared a t s e (map node xs) id l (first (dominating a t l) (map node xs))) (logged a t s e (map node xs) OutOfRange) =
@@ -317,8 +320,10 @@ module _ {L : Type 0} (a : Algebra L) (laws : Laws a) (v : View L) (is : IsTable
   -- an offer that the machine can make
   module _ (w id k : ℕ) (can : CanApply a v w (Offer id k)) (l : L) (comes : (n : NodeOf L) × (slice_get (state_of v).nodes id ≡ Some n) × (l ≡ extended a (setting_of v) n.label k)) where
     pub offer_within : id < length v.nodes
-    offer_within = let h : id < length (state_of v).nodes = slice_get_within (state_of v).nodes id can.0 can.1.at in
-        let e : length (state_of v).nodes ≡ length v.nodes = length-map v.nodes (λ h. h.node) in omega arith
+    offer_within =
+        let h : id < length (state_of v).nodes = slice_get_within (state_of v).nodes id can.0 can.1.at in
+        let e : length (state_of v).nodes ≡ length v.nodes = length-map v.nodes (λ h. h.node) in
+        omega arith
 
     -- the node, its next edge and its vertex
     same_node : comes.0 ≡ can.0
@@ -370,8 +375,8 @@ module _ {L : Type 0} (a : Algebra L) (laws : Laws a) (v : View L) (is : IsTable
 pub offer_alone : {L : Type 0} (a : Algebra L) (laws : Laws a) (v : View L) → IsTable a v → (id : ℕ) → AreAlone a (changed id count_offer v.nodes)
 offer_alone {L} a laws v is id i j g h at_i at_j kept_i kept_j dom = from (before_change id count_offer v.nodes i g at_i) (before_change id count_offer v.nodes j h at_j)
   where
-    label : (k : ℕ) (y : Held L) (b : Before id count_offer v.nodes k y) → ((k ≡ id) × (y ≡ count_offer b.old)) ⊎ (y ≡ b.old) → (y.node.label ≡ b.old.node.label)
-        × (y.node.dropped_by ≡ b.old.node.dropped_by)
+    label : (k : ℕ) (y : Held L) (b : Before id count_offer v.nodes k y) → ((k ≡ id) × (y ≡ count_offer b.old)) ⊎ (y ≡ b.old)
+        → (y.node.label ≡ b.old.node.label) × (y.node.dropped_by ≡ b.old.node.dropped_by)
     label k y b (inl p) = (ap (λ (z : Held L). z.node.label) p.1, ap (λ (z : Held L). z.node.dropped_by) p.1)
     label k y b (inr q) = (ap (λ (z : Held L). z.node.label) q, ap (λ (z : Held L). z.node.dropped_by) q)
 
@@ -397,11 +402,19 @@ none_result None false e = absurd (cc)
 none_result (Some x) true e = absurd (cc)
 none_result (Some x) false e = refl
 
+-- what is answered where both are looked at
+pub finished_result : {L : Type 0} (a : Algebra L) (v : View L) (p o : Option ℕ) (b c : Bool)
+    → p ≡ earliest (λ (h : Held L). is_node_pending h.node) (held_offset a) v.nodes → o ≡ earliest (λ (h : Held L). is_taken h.node) (held_offset a) v.nodes
+    → is_some p ≡ not b → is_some o ≡ not c → (b && c) ≡ is_finished a (setting_of v) (state_of v)
+finished_result a v p o b c e f b_is c_is =
+    ap (λ x. x && c) (none_result p b b_is) ∙ (ap (λ x. is_none p && x) (none_result o c c_is) ∙ finished_is a v p o e f)
+
 -- a spare that is handed out changes nothing that the machine sees
 pub table_same_nodes : {L : Type 0} (a : Algebra L) (old new : View L) (id : ℕ) → IsTable a old → setting_of new ≡ setting_of old
     → new.nodes ≡ changed id hand_out old.nodes → new.log ≡ old.log → IsTable a new
 table_same_nodes {L} a old new id is set nodes log =
-    let same : state_of new ≡ state_of old = state_eq (map (λ (h : Held L). h.node) new.nodes) (map (λ (h : Held L). h.node) old.nodes) new.log old.log
+    let same : state_of new ≡ state_of old =
+    state_eq (map (λ (h : Held L). h.node) new.nodes) (map (λ (h : Held L). h.node) old.nodes) new.log old.log
     (ap (λ xs. map (λ (h : Held L). h.node) xs) nodes ∙ map-changed_same (λ (h : Held L). h.node) hand_out (λ _. refl) id old.nodes) log in
     record {
       sound = subst (λ (g : Digraph). IsSoundGraph g) (ap (λ (x : Setting). x.graph) (sym set)) is.sound;
@@ -423,8 +436,8 @@ module _ {L : Type 0} (a : Algebra L) (laws : Laws a) (v : View L) (is : IsTable
   pub node_extendable : IsTrue (a.is_extendable h.node.label)
   node_extendable =
       let w = node_walk in
-      laws.extendable h.node.label (vertex_of v.graph (a.vertex h.node.label)).deadline v.bound (walk_of a laws (setting_of v) is.bound w.0 w.1 h.node.label w.2)
-      (walk_range a laws (setting_of v) w.0 w.1 h.node.label w.2)
+      laws.extendable h.node.label (vertex_of v.graph (a.vertex h.node.label)).deadline v.bound
+      (walk_of a laws (setting_of v) is.bound w.0 w.1 h.node.label w.2) (walk_range a laws (setting_of v) w.0 w.1 h.node.label w.2)
 
   pub node_holds : (w : ℕ) → h.node.state ≡ TakenBy w → Holds a (setting_of v) (state_of v) w id h.node
   node_holds w e = record { at = at_node a laws v is id h at; held = e }
@@ -436,15 +449,15 @@ module _ {L : Type 0} (a : Algebra L) (laws : Laws a) (v : View L) (is : IsTable
 pub held_at : {L : Type 0} (a : Algebra L) (laws : Laws a) (v : View L) → IsTable a v → (w id : ℕ) (n : NodeOf L) → Holds a (setting_of v) (state_of v) w id n
     → (h : Held L) × (slice_get v.nodes id ≡ Some h) × IsTrue (is_taken h.node)
 held_at {L} a laws v is w id n holds =
-    let lt : id < length v.nodes = (let h : id < length (state_of v).nodes = slice_get_within (state_of v).nodes id n holds.at in
+    let lt : id < length v.nodes =
+    (let h : id < length (state_of v).nodes = slice_get_within (state_of v).nodes id n holds.at in
     let e : length (state_of v).nodes ≡ length v.nodes = length-map v.nodes (λ h. h.node) in omega arith) in
     let x : (h : Held L) × (slice_get v.nodes id ≡ Some h) = get_within v.nodes id lt in
     let same : n ≡ x.0.node = same_Some n x.0.node (sym holds.at ∙ at_node a laws v is id x.0 x.1) in
     (x.0, x.1, ap (λ (m : NodeOf L). is_taken m) (sym same) ∙ ap is_taken_state holds.held)
 
 pub offer_held : {L : Type 0} (a : Algebra L) (laws : Laws a) (v : View L) (is : IsTable a v) (w id k : ℕ) (can : CanApply a v w (Offer id k)) (l : L)
-    (comes : (n : NodeOf L) × (slice_get (state_of v).nodes id ≡ Some n) × (l ≡ extended a (setting_of v) n.label k)) → (h : Held L) × (slice_get v.nodes id ≡ Some h)
-    × (h.node.offered < 1000)
+    (comes : (n : NodeOf L) × (slice_get (state_of v).nodes id ≡ Some n) × (l ≡ extended a (setting_of v) n.label k)) → (h : Held L) × (slice_get v.nodes id ≡ Some h) × (h.node.offered < 1000)
 offer_held {L} a laws v is w id k can l comes =
     let x : (h : Held L) × (slice_get v.nodes id ≡ Some h) = get_within v.nodes id (offer_within a laws v is w id k can l comes) in
     (x.0, x.1, offer_few a laws v is w id k can l comes x.0 x.1)

@@ -188,3 +188,24 @@ module _ {L : Type 0} (a : Algebra L) (laws : Laws a) (l : L) (nodes : List (Hel
         pub found_more : dominates_held a l h ≡ false → IsTold a l nodes (remaining shelf seek)
         found_more d =
             subst (λ (es : List KeptLabel). IsTold a l nodes es) (sym found.seek_is.rest_is) (told_more rest found.passed found.after found.entry told found.rest_is found.below h at_entry d)
+
+-- the look found node `number`: what each answer there rests on
+pub record Looking {L : Type 0} (a : Algebra L) (l : L) (nodes : List (Held L)) (shelf : Shelf) (seek : Seek) (rest : List KeptLabel) (number : ℕ) : Type 0 where
+  pub within : number < length nodes
+  pub less : length (remaining shelf seek) < length rest
+  pub seek_is : IsSeek shelf seek (a.samples l) (remaining shelf seek)
+  pub is_first : (h : Held L) → slice_get nodes number ≡ Some h → dominates_held a l h ≡ true → Some number ≡ first (dominates_held a l) nodes
+  pub more : (h : Held L) → slice_get nodes number ≡ Some h → dominates_held a l h ≡ false → IsTold a l nodes (remaining shelf seek)
+
+pub looking : {L : Type 0} (a : Algebra L) (laws : Laws a) (l : L) (nodes : List (Held L)) (bound : ℕ) → IsTrue (a.is_of l bound)
+    → AllOf (λ (h : Held L). IsTrue (a.is_of h.node.label bound)) nodes → (shelf : Shelf) (seek : Seek) (rest : List KeptLabel) (o : Option ℕ) (number : ℕ)
+    → IsTold a l nodes rest → IsFoundLabel shelf seek (a.samples l) rest o → o ≡ Some number → Looking a l nodes shelf seek rest number
+looking {L} a laws l nodes bound of all_of shelf seek rest o number told found is =
+    let at : IsFoundLabelAt shelf seek (a.samples l) rest number = look_found shelf seek (a.samples l) rest o number found is in
+    record {
+      within = found_within a laws l nodes bound of all_of shelf seek rest number told at;
+      less = found_less a laws l nodes bound of all_of shelf seek rest number told at;
+      seek_is = found_seek a laws l nodes bound of all_of shelf seek rest number told at;
+      is_first = found_first a laws l nodes bound of all_of shelf seek rest number told at;
+      more = found_more a laws l nodes bound of all_of shelf seek rest number told at;
+    }

@@ -17,7 +17,7 @@ ghost use Rattle.drt_table.specs.Taking.{is_soon};
 ghost use Rattle.drt_table.specs.View.{kept_at};
 
 use crate::holding::{first_held, first_taken, forget};
-use crate::kept::{place_in, push_node};
+use crate::kept::{Origin, place_in, push_node};
 use crate::node::{Node, Twin};
 use crate::sampling::{make_columns, sample};
 use crate::step::TableReply;
@@ -197,24 +197,17 @@ impl<L: Label> Arena<L> {
         push_within(&mut self.taken, id);
     }
 
-    // Offers a label, which the node `parent` gave: it is out of range, or dominated, or it is added and drops the kept
-    // nodes that it dominates.
-    pub(crate) fn place(
-        &mut self,
-        twin: Twin<L>,
-        parent: u32,
-        deadline: u32,
-        bound: u64,
-    ) -> TableReply
+    // Offers a label: it is out of range, or dominated, or it is added and drops the kept nodes that it dominates.
+    pub(crate) fn place(&mut self, twin: Twin<L>, origin: Origin) -> TableReply
         requires room { length self.old.nodes < self.old.room }
         requires few { length self.old.nodes < 2 ^ 32 }
         requires vertex { L.algebra.vertex twin < self.old.vertices }
-        requires deadline { IsTime deadline }
-        requires of { IsTrue (L.algebra.is_of twin bound) }
-        requires all_of { AllOf (λ h. IsTrue (L.algebra.is_of h.node.label bound)) self.old.nodes }
+        requires deadline { IsTime origin.deadline }
+        requires of { IsTrue (L.algebra.is_of twin origin.bound) }
+        requires all_of { AllOf (λ h. IsTrue (L.algebra.is_of h.node.label origin.bound)) self.old.nodes }
         requires alone { AreAlone L.algebra self.old.nodes }
-        ensures nodes { HasNodes self.old self.new (placed_nodes L.algebra twin parent deadline bound self.old.nodes) }
-        ensures reply { result ≡ placed_reply L.algebra twin deadline bound self.old.nodes }
+        ensures nodes { HasNodes self.old self.new (placed_nodes L.algebra twin origin.parent origin.deadline origin.bound self.old.nodes) }
+        ensures reply { result ≡ placed_reply L.algebra twin origin.deadline origin.bound self.old.nodes }
     {
         let from = self.nodes.len();
         let heads = self.heads.as_mut_slice();
@@ -224,9 +217,7 @@ impl<L: Label> Arena<L> {
             heads,
             &self.columns,
             twin,
-            parent,
-            deadline,
-            bound,
+            origin,
         );
         admit(self.nodes.as_slice(), from, &mut self.queue);
         sample(self.nodes.as_slice(), from, &mut self.columns);

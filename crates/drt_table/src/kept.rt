@@ -22,32 +22,38 @@ use drt_columns::Columns;
 use drt_label::Label;
 use drt_worklist::push_within;
 
-// Offers the label of the twin, which the node `parent` gave.
+// What a label is offered with: the node that gave it, the deadline of its vertex, and the bound of the table.
+#[derive(Clone, Copy)]
+pub(crate) struct Origin {
+    pub(crate) parent: u32,
+    pub(crate) deadline: u32,
+    pub(crate) bound: u64,
+}
+
+// Offers the label of the twin.
 pub(crate) fn place_in<L: Label>(
     nodes: &mut Vec<Node<L>>,
     links: &mut Vec<Option<u32>>,
     heads: &mut [Option<u32>],
     columns: &Columns,
     twin: Twin<L>,
-    parent: u32,
-    deadline: u32,
-    bound: u64,
+    origin: Origin,
 ) -> TableReply
     requires linked { AreLinked L.algebra nodes.old.items links.old.items heads.old }
     requires sampled { IsShelf L.algebra nodes.old.items (length heads.old) columns.now.room columns.now }
     requires vertex { L.algebra.vertex twin < length heads.old }
     requires room { (vec_len nodes.old < vec_capacity nodes.old) × (vec_len links.old < vec_capacity links.old) }
     requires few { vec_len nodes.old < 2 ^ 32 }
-    requires deadline { IsTime deadline }
-    requires of { IsTrue (L.algebra.is_of twin bound) }
-    requires all_of { AllOf (λ h. IsTrue (L.algebra.is_of h.node.label bound)) nodes.old.items }
+    requires deadline { IsTime origin.deadline }
+    requires of { IsTrue (L.algebra.is_of twin origin.bound) }
+    requires all_of { AllOf (λ h. IsTrue (L.algebra.is_of h.node.label origin.bound)) nodes.old.items }
     requires alone { AreAlone L.algebra nodes.old.items }
-    ensures nodes { nodes.new.items ≡ placed_nodes L.algebra twin parent deadline bound nodes.old.items }
+    ensures nodes { nodes.new.items ≡ placed_nodes L.algebra twin origin.parent origin.deadline origin.bound nodes.old.items }
     ensures linked { AreLinked L.algebra nodes.new.items links.new.items heads.new }
-    ensures reply { result ≡ placed_reply L.algebra twin deadline bound nodes.old.items }
+    ensures reply { result ≡ placed_reply L.algebra twin origin.deadline origin.bound nodes.old.items }
     ensures capacity { (vec_capacity nodes.old ≤ vec_capacity nodes.new) × (vec_capacity links.old ≤ vec_capacity links.new) }
 {
-    if !twin.label.in_range(deadline, bound) {
+    if !twin.label.in_range(origin.deadline, origin.bound) {
         return TableReply::OutOfRange;
     }
     match first_above(
@@ -58,7 +64,7 @@ pub(crate) fn place_in<L: Label>(
         &twin.label,
     ) {
         Some(id) => TableReply::Dominated(id),
-        None => TableReply::Added(add(nodes, links, heads, twin, parent)),
+        None => TableReply::Added(add(nodes, links, heads, twin, origin.parent)),
     }
 }
 

@@ -13,6 +13,7 @@ ghost use Rattle.drt_table.specs.Taking.{take_reply, taken_node};
 ghost use Rattle.drt_model.specs.Digraph.{vertex_count};
 
 use crate::arena::Arena;
+use crate::kept::Origin;
 use crate::node::Twin;
 use crate::shortest::shortest;
 use crate::step::{Entry, TableReply, TableStep};
@@ -191,10 +192,13 @@ impl<L: Label> Table<L> {
         if self.log.len() as u64 >= self.budget {
             return TableReply::Spent;
         }
-        let deadline = self.graph.vertex(twin.label.vertex()).deadline;
-        let bound = self.bound;
+        let origin = Origin {
+            parent: node,
+            deadline: self.graph.vertex(twin.label.vertex()).deadline,
+            bound: self.bound,
+        };
         self.arena.count_offer(node);
-        let reply = self.arena.place(twin, node, deadline, bound);
+        let reply = self.arena.place(twin, origin);
         push_within(
             &mut self.log,
             Entry {

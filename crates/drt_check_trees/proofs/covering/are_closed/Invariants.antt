@@ -5,4 +5,5 @@ use Rattle.drt_check_trees.specs.declared.entries.Entry.{Entry}
 use Rattle.drt_check_trees.proofs.covering.are_closed.Given as goal
 
 abbrev pub invariant-loop-i : goal.invariant-loop-i
-invariant-loop-i l = (j : ℕ) (d : Entry) → j < l.i → IsClosedWalk l.bound l.graph l.tree (get_or l.tree.walks (get_or l.entries j d).number [])
+invariant-loop-i l = (j : ℕ) (d : Entry) → j < l.i
+    → IsClosedWalk l.bounded.bound l.bounded.graph.now l.catalogue.tree.now (get_or l.catalogue.tree.now.walks (get_or l.catalogue.entries.now j d).number [])

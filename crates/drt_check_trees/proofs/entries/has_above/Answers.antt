@@ -1,109 +1,90 @@
-use Rattle.std.proofs.Common.{◌≡◌, ℕ, ◌+◌, ◌-◌, ◌*◌, ◌<◌, ◌≤◌, inl, inr, true, false, List, [], length, ap, arith, get_or, refl, subst, sym, ◌∙◌}
+use Rattle.std.proofs.Common.{◌≡◌, ℕ, ◌-◌, ◌<◌, ◌≤◌, inl, inr, true, false, List, [], length, ap, arith, get_or, refl, subst, sym, ◌∙◌}
 use Rattle.std.proofs.lemmas.Bool.{cases_lt}
 use Rattle.std.proofs.lemmas.List.{get_or_default}
-use Rattle.drt_model.specs.Walk.{work}
 use Rattle.drt_check_trees.specs.Asking.{AsksNoLess}
-use Rattle.drt_check_trees.specs.Entries.{IsEntryOf, IsWalkOver, last_in, rank_of}
+use Rattle.drt_check_trees.specs.Entries.{IsEntryOf, IsWalkOver, last_in}
 use Rattle.drt_check_trees.specs.declared.entries.Entry.{Entry}
-use Rattle.drt_check_trees.proofs.Ranks.{entry_over, over_entry, over_parts, short_last, short_small, short_within}
+use Rattle.drt_check_trees.proofs.Dominators.{entry_over, over_entry, over_parts, short_last, short_within}
 use Rattle.drt_check_trees.proofs.entries.has_above.Goals as goal
 
-pub overflow_mul-last : goal.overflow_mul-last
-overflow_mul-last c =
-    let l = short_last c.args.graph.now c.keep_limits.ensures c.args.bound c.args.walk.now c.requires.walk in
-    omega (arith, l, c.last_in-last.ensures, c.keep_limits.ensures.few)
-
-pub rank_of-requires-clause-last : goal.rank_of-requires-clause-last
-rank_of-requires-clause-last c =
-    let l = short_last c.args.graph.now c.keep_limits.ensures c.args.bound c.args.walk.now c.requires.walk in
-    omega (arith, l, c.last_in-last.ensures, c.keep_limits.ensures.few)
-
-pub rank_of-requires-clause-work : goal.rank_of-requires-clause-work
-rank_of-requires-clause-work c =
-    let w = short_small c.args.graph.now c.keep_limits.ensures c.args.bound c.args.walk.now c.requires.bound c.requires.walk in
-    omega (arith, w, c.requires.work)
-
 pub digest_of-requires-clause-within : goal.digest_of-requires-clause-within
-digest_of-requires-clause-within c = short_within c.args.graph.now c.keep_limits.ensures c.args.bound c.args.walk.now c.requires.bound c.requires.walk
-
-pub overflow_add-own : goal.overflow_add-own
-overflow_add-own c =
-    let l = short_last c.args.graph.now c.keep_limits.ensures c.args.bound c.args.walk.now c.requires.walk in
-    omega (arith, l, c.last_in-last.ensures, c.keep_limits.ensures.few, c.rank_of.ensures)
+digest_of-requires-clause-within c = short_within c.args.bounded.now.graph.now c.keep_limits.ensures c.args.bounded.now.bound c.args.walk.now c.requires.bounded.bound c.requires.walk
 
 pub bounds-hints-last : goal.bounds-hints-last
 bounds-hints-last c =
-    let l = short_last c.args.graph.now c.keep_limits.ensures c.args.bound c.args.walk.now c.requires.walk in
+    let l = short_last c.args.bounded.now.graph.now c.keep_limits.ensures c.args.bounded.now.bound c.args.walk.now c.requires.walk in
     omega (arith, l, c.last_in-last.ensures, c.keep_limits.ensures.few)
 
 pub bounds-hints-last-then-is_over_at-2 : goal.bounds-hints-last-then-is_over_at-2
 bounds-hints-last-then-is_over_at-2 c =
-    let l = short_last c.args.graph.now c.keep_limits.ensures c.args.bound c.args.walk.now c.requires.walk in
+    let l = short_last c.args.bounded.now.graph.now c.keep_limits.ensures c.args.bounded.now.bound c.args.walk.now c.requires.walk in
     omega (arith, l, c.last_in-last.ensures, c.keep_limits.ensures.few)
 
 pub bounds-hints-last-then-is_no_less : goal.bounds-hints-last-then-is_no_less
 bounds-hints-last-then-is_no_less c =
-    let l = short_last c.args.graph.now c.keep_limits.ensures c.args.bound c.args.walk.now c.requires.walk in
+    let l = short_last c.args.bounded.now.graph.now c.keep_limits.ensures c.args.bounded.now.bound c.args.walk.now c.requires.walk in
     omega (arith, l, c.last_in-last.ensures, c.keep_limits.ensures.few)
 
 pub returns-then-is_no_less : goal.returns-then-is_no_less
 returns-then-is_no_less c =
-    let g = c.args.graph.now in
+    let g = c.args.bounded.now.graph.now in
     let k : ℕ = c.loop-k.k - 1 in
-    let entries : List Entry = c.args.entries.now in
-    let d : Entry = record { rank = 0; number = 0; span = 0; digest = 0 } in
+    let entries : List Entry = c.args.catalogue.now.entries.now in
+    let d : Entry = record { last = 0; work = record { 0 = 0 }; span = 0; digest = 0; number = 0 } in
     let e : Entry = get_or entries k d in
-    let l : k < length entries = omega (arith, c.loop-k-test.true, c.loop-k.invariant.0, c.first_from-k.ensures.within) in
-    let of : IsEntryOf g c.args.walks.now e = c.requires.entries.each k d l in
-    let low : 1099511627776 * c.last_in-last.result ≤ e.rank = c.first_from-from.ensures.after k d (omega (arith, c.loop-k-test.true)) l in
-    let high : e.rank < c.rank_of.result + 1 = c.first_from-k.ensures.before k d (omega (arith, c.loop-k-test.true, c.loop-k.invariant.0)) in
-    let from : 1099511627776 * last_in c.args.walk.now ≤ e.rank = omega (arith, low, c.last_in-last.ensures) in
-    let to : e.rank ≤ rank_of (last_in c.args.walk.now) (work g c.args.walk.now) = omega (arith, high, c.rank_of.ensures, c.last_in-last.ensures, c.requires.work) in
-    let both : (e.span ≤ c.args.extent.span) × AsksNoLess c.args.bound g c.args.walk.now (get_or c.args.walks.now e.number []) = c.is_no_less.ensures.0 c.if-is_no_less.true in (
-      λ t. entry_over c.args.bound g c.args.walks.now c.requires.short c.args.walk.now c.requires.walk e of from to (omega (arith, both.0, c.requires.span)) both.1,
+    let l : k < length entries = omega (arith, c.loop-k-test.true, c.loop-k.invariant.0, c.first_below-k.ensures.within) in
+    let of : IsEntryOf g c.args.catalogue.now.tree.now.walks e = c.requires.catalogue.entries.each k d l in
+    let low : c.last_in-last.result ≤ e.last = c.first_to-from.ensures.after k d (omega (arith, c.loop-k-test.true)) l in
+    let high : e.last ≤ c.last_in-last.result = c.first_below-k.ensures.before k d (omega (arith, c.loop-k-test.true, c.loop-k.invariant.0)) in
+    let last : e.last ≡ last_in c.args.walk.now = omega (arith, low, high, c.last_in-last.ensures) in
+    let both : (e.span ≤ c.args.extent.span) × AsksNoLess c.args.bounded.now.bound g c.args.walk.now (get_or c.args.catalogue.now.tree.now.walks e.number [])
+    = c.is_no_less.ensures.0 c.if-is_no_less.true in (
+      λ t. entry_over c.args.bounded.now.bound g c.args.catalogue.now.tree.now.walks c.requires.catalogue.short c.args.walk.now c.requires.walk e of last
+          (omega (arith, both.0, c.requires.span)) both.1,
       λ any. refl,
     )
 
 pub loop-k-preserved : goal.loop-k-preserved
 loop-k-preserved c =
-    let g = c.args.graph.now in
+    let g = c.args.bounded.now.graph.now in
     let k : ℕ = c.loop-k.k - 1 in
-    let entries : List Entry = c.args.entries.now in
-    let d : Entry = record { rank = 0; number = 0; span = 0; digest = 0 } in
+    let entries : List Entry = c.args.catalogue.now.entries.now in
+    let d : Entry = record { last = 0; work = record { 0 = 0 }; span = 0; digest = 0; number = 0 } in
     let e : Entry = get_or entries k d in
-    let l : k < length entries = omega (arith, c.loop-k-test.true, c.loop-k.invariant.0, c.first_from-k.ensures.within) in
-    let of : IsEntryOf g c.args.walks.now e = c.requires.entries.each k d l in
-    let not : IsWalkOver c.args.bound g c.args.walk.now (get_or c.args.walks.now e.number []) → ⊥
+    let l : k < length entries = omega (arith, c.loop-k-test.true, c.loop-k.invariant.0, c.first_below-k.ensures.within) in
+    let of : IsEntryOf g c.args.catalogue.now.tree.now.walks e = c.requires.catalogue.entries.each k d l in
+    let not : IsWalkOver c.args.bounded.now.bound g c.args.walk.now (get_or c.args.catalogue.now.tree.now.walks e.number []) → ⊥
     = (λ over.
-    let parts = over_parts c.args.bound g c.args.walk.now (get_or c.args.walks.now e.number []) over in
+    let parts = over_parts c.args.bounded.now.bound g c.args.walk.now (get_or c.args.catalogue.now.tree.now.walks e.number []) over in
     let r : c.is_no_less.result ≡ true = c.is_no_less.ensures.1 (omega (arith, parts.1, of.span, c.requires.span), parts.2) in
     let s : c.is_no_less.result ≡ false = c.if-is_no_less.false in
     cc) in (
       omega (arith, c.loop-k.invariant.0),
-      λ j f m n to over.
+      λ j f m n same_last more over.
           elim (cases_lt j c.loop-k.k) [
             | inl q ↦ (
                 let s : j ≡ k = omega (arith, m, q) in
                 let same : get_or entries j f ≡ e = ap (λ (i : ℕ). get_or entries i f) s ∙ get_or_default entries k f d l in
-                not (subst (λ (x : Entry). IsWalkOver c.args.bound g c.args.walk.now (get_or c.args.walks.now x.number [])) same over))
-            | inr q ↦ c.loop-k.invariant.1 j f q n to over
+                not (subst (λ (x : Entry). IsWalkOver c.args.bounded.now.bound g c.args.walk.now (get_or c.args.catalogue.now.tree.now.walks x.number [])) same over))
+            | inr q ↦ c.loop-k.invariant.1 j f q n same_last more over
           ],
     )
 
 pub returns : goal.returns
 returns c =
-    let g = c.args.graph.now in
-    let entries : List Entry = c.args.entries.now in (
+    let g = c.args.bounded.now.graph.now in
+    let entries : List Entry = c.args.catalogue.now.entries.now in (
       λ t. absurd (cc),
       λ any.
-          let h = over_entry c.args.bound g c.args.walks.now c.requires.short c.args.walk.now c.requires.walk entries c.requires.entries any in
-          let rank = ap (λ (x : Entry). x.rank) h.at in
+          let h = over_entry c.args.bounded.now.bound g c.args.catalogue.now.tree.now.walks c.requires.catalogue.short c.args.walk.now c.requires.walk entries c.requires.catalogue.entries any in
+          let at_last = ap (λ (x : Entry). x.last) h.at in
+          let at_work = ap (λ (x : Entry). x.work.0) h.at in
           let past : c.loop-k.k ≤ h.place = elim (cases_lt h.place c.loop-k.k) [
             | inl q ↦ (
-                let b = c.first_from-from.ensures.before h.place h.entry (omega (arith, q, c.loop-k-test.false)) in
-                absurd (omega (arith, b, h.from, rank, c.last_in-last.ensures)))
+                let b = c.first_to-from.ensures.before h.place h.entry (omega (arith, q, c.loop-k-test.false)) in
+                absurd (omega (arith, b, h.last, at_last, c.last_in-last.ensures)))
             | inr q ↦ q
           ] in
-          absurd (c.loop-k.invariant.1 h.place h.entry past h.within (omega (arith, h.to, rank))
-          (subst (λ (x : Entry). IsWalkOver c.args.bound g c.args.walk.now (get_or c.args.walks.now x.number [])) (sym h.at) h.over)),
+          absurd (c.loop-k.invariant.1 h.place h.entry past h.within (omega (arith, h.last, at_last)) (omega (arith, h.more, at_work))
+          (subst (λ (x : Entry). IsWalkOver c.args.bounded.now.bound g c.args.walk.now (get_or c.args.catalogue.now.tree.now.walks x.number [])) (sym h.at) h.over)),
     )

@@ -1,4 +1,4 @@
-use Rattle.drt_check_trees.proofs.Ranks.{last_at}
+use Rattle.drt_check_trees.proofs.Dominators.{last_at}
 use Rattle.drt_check_trees.proofs.entries.last_in.Goals as goal
 
 pub returns : goal.returns

@@ -7,7 +7,7 @@ use Rattle.drt_table.specs.Sampled.{IsShelf}
 use Rattle.drt_table.proofs.kept.place_in.Goals as goal
 
 pub in_range-requires-clause-of : goal.in_range-requires-clause-of
-in_range-requires-clause-of g c = subst (λ l. IsTrue (g.L.Label.algebra.is_of l c.args.bound)) (sym c.twin.view_is) c.requires.of
+in_range-requires-clause-of g c = subst (λ l. IsTrue (g.L.Label.algebra.is_of l c.args.origin.bound)) (sym c.twin.view_is) c.requires.of
 
 pub first_above-requires-clause-linked : goal.first_above-requires-clause-linked
 first_above-requires-clause-linked g c κs within =
@@ -25,9 +25,9 @@ first_above-requires-clause-vertex g c κs within = subst (λ l. g.L.Label.algeb
 pub first_above-requires-clause-of : goal.first_above-requires-clause-of
 first_above-requires-clause-of g c κs within =
     let a = g.L.Label.algebra in (
-      c.args.bound,
-      subst (λ l. IsTrue (a.is_of l c.args.bound)) (sym c.twin.view_is) c.requires.of,
-      subst (λ (xs : List (Held _)). AllOf (λ (h : Held _). IsTrue (a.is_of h.node.label c.args.bound)) xs) (sym c.as_slice.ensures.value) c.requires.all_of,
+      c.args.origin.bound,
+      subst (λ l. IsTrue (a.is_of l c.args.origin.bound)) (sym c.twin.view_is) c.requires.of,
+      subst (λ (xs : List (Held _)). AllOf (λ (h : Held _). IsTrue (a.is_of h.node.label c.args.origin.bound)) xs) (sym c.as_slice.ensures.value) c.requires.all_of,
     )
 
 pub first_above-requires-clause-alone : goal.first_above-requires-clause-alone
@@ -46,4 +46,4 @@ pub add-requires-clause-few : goal.add-requires-clause-few
 add-requires-clause-few g c κs within = c.requires.few
 
 pub add-requires-clause-of : goal.add-requires-clause-of
-add-requires-clause-of g c κs within = (c.args.bound, c.requires.of, c.requires.all_of)
+add-requires-clause-of g c κs within = (c.args.origin.bound, c.requires.of, c.requires.all_of)

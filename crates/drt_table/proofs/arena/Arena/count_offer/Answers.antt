@@ -1,13 +1,11 @@
-use Rattle.std.proofs.Common.{◌≡◌, ◌<◌, Some, length, refl, sym, ap, ◌∙◌, subst, set, arith}
-use Rattle.std.specs.Prelude.{slice_get, slice_set}
+use Rattle.std.proofs.Common.{◌≡◌, ◌<◌, length, refl, sym, subst, arith}
+use Rattle.std.specs.Prelude.{slice_set}
 use Rattle.std.specs.BinaryHeap.{heap_items}
-use Rattle.std.proofs.lemmas.List.{length-set}
-use Rattle.drt_table.specs.Arena.{Stock, HasNodes, AreArranged}
+use Rattle.drt_table.specs.Arena.{AreArranged}
 use Rattle.drt_table.specs.Held.{count_offer}
 use Rattle.drt_table.specs.Node.{Held}
 use Rattle.drt_worklist.specs.Places.{changed}
-use Rattle.drt_worklist.proofs.Writes.{changed_set}
-use Rattle.drt_table.proofs.Arranged.{Calms, change_arranged, node_at, node_has, node_within}
+use Rattle.drt_table.proofs.Arranged.{changing, Calms, change_arranged, node_has, node_within}
 use Rattle.drt_table.proofs.Columns.{change_samples}
 use Rattle.drt_table.proofs.arena.Arena.count_offer.Goals as goal
 
@@ -25,29 +23,25 @@ count_offer-requires-after_bounds g c κs within = node_has MayOffer _ _ c.self.
 
 pub returns : goal.returns
 returns g c =
-    let v : Stock _ = record { nodes = c.self.inside.nodes.items; vertices = length c.self.inside.heads.items; room = c.self.inside.room } in
-    let at : slice_get v.nodes c.args.id ≡ Some c.index_mut.result.now =
-    node_at MayOffer v _ c.self.view_is c.args.id c.requires c.index_mut.result.now c.index_mut.ensures.value in
-    let nodes : slice_set v.nodes c.args.id c.count_offer.new.self ≡ changed c.args.id count_offer v.nodes = ap (λ x. set v.nodes c.args.id x) c.count_offer.ensures
-    ∙ sym (changed_set count_offer v.nodes c.args.id c.index_mut.result.now at) in
-    subst (λ (x : Stock _). HasNodes x (record { nodes = slice_set v.nodes c.args.id c.count_offer.new.self; vertices = v.vertices; room = v.room })
-    (changed c.args.id count_offer x.nodes)) c.self.view_is (record { nodes_are = nodes; vertices = refl; room = refl })
+    let s = changing MayOffer _ _ c.self.view_is c.args.id c.requires c.index_mut.result.now c.index_mut.ensures.value
+    count_offer c.count_offer.new.self c.count_offer.ensures in
+    s.has
 
 pub invariant_of-self : goal.invariant_of-self
 invariant_of-self g c =
-    let v : Stock _ = record { nodes = c.self.inside.nodes.items; vertices = length c.self.inside.heads.items; room = c.self.inside.room } in
-    let at : slice_get v.nodes c.args.id ≡ Some c.index_mut.result.now =
-    node_at MayOffer v _ c.self.view_is c.args.id c.requires c.index_mut.result.now c.index_mut.ensures.value in
-    let nodes : slice_set v.nodes c.args.id c.count_offer.new.self ≡ changed c.args.id count_offer v.nodes = ap (λ x. set v.nodes c.args.id x) c.count_offer.ensures
-    ∙ sym (changed_set count_offer v.nodes c.args.id c.index_mut.result.now at) in
+    let s = changing MayOffer _ _ c.self.view_is c.args.id c.requires c.index_mut.result.now c.index_mut.ensures.value
+    count_offer c.count_offer.new.self c.count_offer.ensures in
+    let nodes = c.self.inside.nodes.items in
     let old = c.self.invariant in
     let calms : Calms count_offer = record { label = λ h. refl; pending = λ h t. t } in
-    let arranged = change_arranged count_offer c.args.id v.nodes g.L.Label.algebra c.self.inside.links.items c.self.inside.heads.items (heap_items c.self.inside.queue)
-    c.self.inside.taken.items c.index_mut.result.now at (λ h. (refl, refl)) calms (λ h t. t) (λ t. t) old.0 in
-    let count : length (slice_set v.nodes c.args.id c.count_offer.new.self) ≡ length v.nodes = length-set v.nodes c.args.id c.count_offer.new.self in
-    let shelf = change_samples g.L.Label.algebra (length c.self.inside.heads.items) c.self.inside.room c.self.inside.columns count_offer c.args.id v.nodes _ nodes (λ h. refl) old.7 in (
+    let arranged =
+    change_arranged count_offer c.args.id nodes g.L.Label.algebra c.self.inside.links.items c.self.inside.heads.items (heap_items c.self.inside.queue) c.self.inside.taken.items c.index_mut.result.now
+    s.at (λ h. (refl, refl)) calms (λ h t. t) (λ t. t) old.0 in
+    let count : length (slice_set nodes c.args.id c.count_offer.new.self) ≡ length nodes = s.count in
+    let shelf =
+    change_samples g.L.Label.algebra (length c.self.inside.heads.items) c.self.inside.room c.self.inside.columns count_offer c.args.id nodes _ s.nodes_are (λ h. refl) old.7 in (
       subst (λ xs. AreArranged g.L.Label.algebra xs c.self.inside.links.items c.self.inside.heads.items (heap_items c.self.inside.queue) c.self.inside.taken.items)
-          (sym nodes) arranged,
+          (sym s.nodes_are) arranged,
       omega (arith, count, old.1),
       omega (arith, count, old.2),
       old.3,

@@ -18,8 +18,9 @@ admit-requires-clause-waiting g c κs within =
     let a = g.L.Label.algebra in
     let nodes = c.self.inside.nodes.items in
     let tickets = heap_items c.self.inside.queue in
-    let later : List (Held _) = placed_nodes a c.args.twin c.args.parent c.args.deadline c.args.bound nodes in
-    let follows : Follows a c.args.twin c.args.parent c.args.deadline c.args.bound nodes later = place_follows a c.args.twin c.args.parent c.args.deadline c.args.bound nodes in
+    let later : List (Held _) = placed_nodes a c.args.twin c.args.origin.parent c.args.origin.deadline c.args.origin.bound nodes in
+    let follows : Follows a c.args.twin c.args.origin.parent c.args.origin.deadline c.args.origin.bound nodes later =
+    place_follows a c.args.twin c.args.origin.parent c.args.origin.deadline c.args.origin.bound nodes in
     let from : c.len-from.result ≡ length nodes = search rules in
     subst (λ xs. AreWaiting a xs tickets c.len-from.result) (sym (c.as_slice.ensures.value ∙ c.place_in-reply.ensures.nodes))
     (subst (λ n. AreWaiting a later tickets n) (sym from) (still_waiting a nodes later tickets follows.waiting c.self.invariant.0.waiting))
@@ -27,14 +28,14 @@ admit-requires-clause-waiting g c κs within =
 pub admit-requires-clause-from : goal.admit-requires-clause-from
 admit-requires-clause-from g c κs within =
     let nodes = c.self.inside.nodes.items in
-    let follows = place_follows g.L.Label.algebra c.args.twin c.args.parent c.args.deadline c.args.bound nodes in
+    let follows = place_follows g.L.Label.algebra c.args.twin c.args.origin.parent c.args.origin.deadline c.args.origin.bound nodes in
     subst (λ n. n ≤ length c.as_slice.result.now) (sym (c.len-from.ensures ∙ c.self.inside.nodes.ok.0))
     (subst (λ m. length nodes ≤ m) (sym (ap length (c.as_slice.ensures.value ∙ c.place_in-reply.ensures.nodes))) follows.held.longer)
 
 pub admit-requires-clause-few : goal.admit-requires-clause-few
 admit-requires-clause-few g c κs within =
     let nodes = c.self.inside.nodes.items in
-    let follows = place_follows g.L.Label.algebra c.args.twin c.args.parent c.args.deadline c.args.bound nodes in
+    let follows = place_follows g.L.Label.algebra c.args.twin c.args.origin.parent c.args.origin.deadline c.args.origin.bound nodes in
     let few : length nodes < 4294967296 = subst (λ (x : Stock _). length x.nodes < 4294967296) (sym c.self.view_is) c.requires.few in
     admit_few _ _ _ (c.len-from.ensures ∙ c.self.inside.nodes.ok.0)
     (subst (λ m. m ≤ length nodes + 1) (sym (ap length (c.as_slice.ensures.value ∙ c.place_in-reply.ensures.nodes))) follows.at_most) few
@@ -42,7 +43,7 @@ admit-requires-clause-few g c κs within =
 pub admit-requires-clause-room : goal.admit-requires-clause-room
 admit-requires-clause-room g c κs within =
     let nodes = c.self.inside.nodes.items in
-    let follows = place_follows g.L.Label.algebra c.args.twin c.args.parent c.args.deadline c.args.bound nodes in
+    let follows = place_follows g.L.Label.algebra c.args.twin c.args.origin.parent c.args.origin.deadline c.args.origin.bound nodes in
     let room : length nodes < c.self.inside.room = subst (λ (x : Stock _). length x.nodes < x.room) (sym c.self.view_is) c.requires.room in
     admit_room _ _ _ (c.len-from.ensures ∙ c.self.inside.nodes.ok.0)
     (subst (λ m. m ≤ length nodes + 1) (sym (ap length (c.as_slice.ensures.value ∙ c.place_in-reply.ensures.nodes))) follows.at_most) _ _ _ _ room c.self.invariant.2 c.self.invariant.5
@@ -54,8 +55,9 @@ invariant_of-self g c =
     let nodes = c.self.inside.nodes.items in
     let taken = c.self.inside.taken.items in
     let old = c.self.invariant in
-    let later : List (Held _) = placed_nodes a c.args.twin c.args.parent c.args.deadline c.args.bound nodes in
-    let follows : Follows a c.args.twin c.args.parent c.args.deadline c.args.bound nodes later = place_follows a c.args.twin c.args.parent c.args.deadline c.args.bound nodes in
+    let later : List (Held _) = placed_nodes a c.args.twin c.args.origin.parent c.args.origin.deadline c.args.origin.bound nodes in
+    let follows : Follows a c.args.twin c.args.origin.parent c.args.origin.deadline c.args.origin.bound nodes later =
+    place_follows a c.args.twin c.args.origin.parent c.args.origin.deadline c.args.origin.bound nodes in
     let room : length v.nodes < v.room = subst (λ (x : Stock _). length x.nodes < x.room) (sym c.self.view_is) c.requires.room in
     let from : c.len-from.result ≡ length nodes = search rules in
     let queue = heap_items c.admit.new.queue in
@@ -74,7 +76,7 @@ invariant_of-self g c =
     let long : length c.place_in-reply.new.heads ≡ c.self.inside.heads.len = search rules in
     let one_more : IsMore nodes c.place_in-reply.new.nodes.items c.args.twin =
     subst (λ (hs : List (Held _)). IsMore nodes hs c.args.twin) (sym c.place_in-reply.ensures.nodes)
-    (more_placed a c.args.twin c.args.parent c.args.deadline c.args.bound nodes) in (
+    (more_placed a c.args.twin c.args.origin.parent c.args.origin.deadline c.args.origin.bound nodes) in (
       subst (λ os. AreArranged a c.place_in-reply.new.nodes.items c.place_in-reply.new.links.items os queue taken) (sym heads) all,
       omega (arith, now, at_most, room),
       omega (arith, seen, from, c.admit.ensures.len, old.2),
@@ -116,7 +118,7 @@ place_in-reply-requires-clause-of g c κs within = c.requires.of
 
 pub place_in-reply-requires-clause-all_of : goal.place_in-reply-requires-clause-all_of
 place_in-reply-requires-clause-all_of g c κs within =
-    subst (λ (x : Stock _). AllOf (λ (h : Held _). IsTrue (g.L.Label.algebra.is_of h.node.label c.args.bound)) x.nodes) (sym c.self.view_is) c.requires.all_of
+    subst (λ (x : Stock _). AllOf (λ (h : Held _). IsTrue (g.L.Label.algebra.is_of h.node.label c.args.origin.bound)) x.nodes) (sym c.self.view_is) c.requires.all_of
 
 pub place_in-reply-requires-clause-alone : goal.place_in-reply-requires-clause-alone
 place_in-reply-requires-clause-alone g c κs within = subst (λ (x : Stock _). AreAlone g.L.Label.algebra x.nodes) (sym c.self.view_is) c.requires.alone
@@ -126,24 +128,24 @@ admit-requires-clause-order g c κs within = c.self.invariant.0.order
 
 pub returns-clause-reply : goal.returns-clause-reply
 returns-clause-reply g c =
-    c.place_in-reply.ensures.reply ∙ ap (λ (x : Stock _). placed_reply g.L.Label.algebra c.args.twin c.args.deadline c.args.bound x.nodes) c.self.view_is
+    c.place_in-reply.ensures.reply ∙ ap (λ (x : Stock _). placed_reply g.L.Label.algebra c.args.twin c.args.origin.deadline c.args.origin.bound x.nodes) c.self.view_is
 
 pub sample-requires-clause-can : goal.sample-requires-clause-can
 sample-requires-clause-can g c κs within no_chain =
     let a = g.L.Label.algebra in
     let nodes = c.self.inside.nodes.items in
-    let later : List (Held _) = placed_nodes a c.args.twin c.args.parent c.args.deadline c.args.bound nodes in
+    let later : List (Held _) = placed_nodes a c.args.twin c.args.origin.parent c.args.origin.deadline c.args.origin.bound nodes in
     let from : c.len-from.result ≡ length nodes = search rules in
     let vertex : a.vertex c.args.twin < length c.self.inside.heads.items = subst (λ (x : Stock _). a.vertex c.args.twin < x.vertices) (sym c.self.view_is) c.requires.vertex in
     let room : length nodes < c.self.inside.room = subst (λ (x : Stock _). length x.nodes < x.room) (sym c.self.view_is) c.requires.room in
-    let one_more : IsMore nodes later c.args.twin = more_placed a c.args.twin c.args.parent c.args.deadline c.args.bound nodes in
+    let one_more : IsMore nodes later c.args.twin = more_placed a c.args.twin c.args.origin.parent c.args.origin.deadline c.args.origin.bound nodes in
     subst (λ (hs : List (Held _)). CanSample a hs c.len-from.result c.self.inside.columns) (sym (c.as_slice-2.ensures.value ∙ c.place_in-reply.ensures.nodes))
     (can_sample a nodes later c.args.twin (length c.self.inside.heads.items) c.self.inside.room c.self.inside.columns c.self.invariant.7 one_more c.len-from.result from vertex room no_chain)
 
 pub sample-requires-clause-few : goal.sample-requires-clause-few
 sample-requires-clause-few g c κs within =
     let nodes = c.self.inside.nodes.items in
-    let follows = place_follows g.L.Label.algebra c.args.twin c.args.parent c.args.deadline c.args.bound nodes in
+    let follows = place_follows g.L.Label.algebra c.args.twin c.args.origin.parent c.args.origin.deadline c.args.origin.bound nodes in
     let few : length nodes < 4294967296 = subst (λ (x : Stock _). length x.nodes < 4294967296) (sym c.self.view_is) c.requires.few in
     admit_few _ _ _ (c.len-from.ensures ∙ c.self.inside.nodes.ok.0)
     (subst (λ m. m ≤ length nodes + 1) (sym (ap length (c.as_slice-2.ensures.value ∙ c.place_in-reply.ensures.nodes))) follows.at_most) few
@@ -151,6 +153,6 @@ sample-requires-clause-few g c κs within =
 pub sample-requires-clause-last : goal.sample-requires-clause-last
 sample-requires-clause-last g c κs within =
     let nodes = c.self.inside.nodes.items in
-    let follows = place_follows g.L.Label.algebra c.args.twin c.args.parent c.args.deadline c.args.bound nodes in
+    let follows = place_follows g.L.Label.algebra c.args.twin c.args.origin.parent c.args.origin.deadline c.args.origin.bound nodes in
     sample_last _ _ _ (c.len-from.ensures ∙ c.self.inside.nodes.ok.0)
     (subst (λ m. m ≤ length nodes + 1) (sym (ap length (c.as_slice-2.ensures.value ∙ c.place_in-reply.ensures.nodes))) follows.at_most)

@@ -1,8 +1,10 @@
--- Short walks, their ranks, and what dominates them.
-use Rattle.std.proofs.Common.{◌≡◌, ℕ, suc, ◌+◌, ◌-◌, ◌*◌, ◌<◌, ◌≤◌, List, [], ◌∷◌, All, length, get_or, refl, sym, ap, subst, arith, ◌∙◌}
-use Rattle.std.specs.Prelude.{Any, nat_lt}
-use Rattle.std.specs.List.Sorted.{IsNonDecreasingBy, IsPartitionedBy, IsPermutation}
-use Rattle.std.proofs.lemmas.Bool.{ltb-true, lt-ltb}
+-- Short walks, their entries in order, and what dominates them.
+use Rattle.std.proofs.Common.{◌≡◌, ℕ, zero, suc, ◌+◌, ◌-◌, ◌*◌, ◌<◌, ◌≤◌, ◌⊎◌, inl, inr, true, false, List, [], ◌∷◌, All, length, get_or, refl, sym, ap, subst, arith, ◌∙◌}
+use Rattle.std.specs.Prelude.{Any, nat_lt, ◌==◌}
+use Rattle.std.specs.Ordering.{is_lt, nat_cmp, ordering_then}
+use Rattle.std.specs.declared.cmp.Ordering.{Ordering}
+use Rattle.std.specs.List.Sorted.{IsPartitionedBy, IsPermutation, IsSorted}
+use Rattle.std.proofs.lemmas.Bool.{cases_Bool, cases_lt, eq-eqb, eqb-true, eqb-false, le-leb, le-ltb, leb-true, lt-ltb, ltb-true}
 use Rattle.std.proofs.lemmas.List.{get_or_default}
 use Rattle.std.proofs.lemmas.List.Sorted.{All-permutation, Contains-permutation}
 use Rattle.std.proofs.lemmas.List.Elements.{All-cons, All-head, All-nil, All-tail}
@@ -13,11 +15,16 @@ use Rattle.drt_graph.proofs.Edges.{target_of}
 use Rattle.drt_graph.proofs.Paths.{path_within, span_cons, work_cons, work_none}
 use Rattle.drt_claims.specs.Trees.{IsShortWalk}
 use Rattle.drt_check_trees.specs.Asking.{AsksNoLess, AreWalkVertices, asked_by_rest, span_of}
-use Rattle.drt_check_trees.specs.Entries.{AreWalkEntries, IsEntryOf, IsListed, IsWalkOver, last_in, order_of, rank_of}
+use Rattle.drt_check_trees.specs.Entries.{AreInOrder, AreWalkEntries, IsEntryOf, IsListed, IsNoLater, IsWalkOver, is_up_to, last_in}
 use Rattle.drt_check_trees.specs.Gaps.{gap_to}
 use Rattle.drt_check_trees.specs.declared.entries.Entry.{Entry}
 use Rattle.drt_check_trees.proofs.Asks.{asks_more, span_more}
 use Rattle.drt_check_trees.proofs.Domination.{over_self, over_trans}
+
+-- How two entries compare.
+abbrev pub compare : Entry → Entry → Ordering
+compare x y = ordering_then (nat_cmp x.last y.last)
+    (ordering_then (nat_cmp y.work.0 x.work.0) (ordering_then (nat_cmp x.span y.span) (ordering_then (nat_cmp x.digest y.digest) (nat_cmp x.number y.number))))
 
 -- The last vertex of a list that isn't empty.
 at_last : (v : ℕ) (vs : List ℕ) → get_or (v ∷ vs) (length vs) 0 ≡ last_of v vs
@@ -28,12 +35,37 @@ pub last_at : (walk : List ℕ) → 0 < length walk → get_or walk (length walk
 last_at [] l = absurd (omega arith)
 last_at (v ∷ vs) l = let n : suc (length vs) - 1 ≡ length vs = omega arith in ap (λ i. get_or (v ∷ vs) i 0) n ∙ at_last v vs
 
--- Those of lower rank come first.
-pub partitioned : (entries : List Entry) (rank : ℕ) → IsNonDecreasingBy (λ e. e.rank) entries → IsPartitionedBy (λ e. nat_lt e.rank rank) entries
-partitioned entries rank sorted i j d l m e =
+-- Those of lower last vertices come first,
+pub lower_first : (entries : List Entry) (last : ℕ) → AreInOrder entries → IsPartitionedBy (λ e. nat_lt e.last last) entries
+lower_first entries last sorted i j d l m e =
+    let a = (sorted i j d l m).last in
+    let b = ltb-true (get_or entries j d).last last e in
+    lt-ltb (get_or entries i d).last last (omega (arith, a, b))
+
+-- and among those of one last vertex those of more work.
+pub up_to_parts : (last work : ℕ) (e : Entry) → is_up_to last work e ≡ true → (e.last ≤ last) × (e.last ≡ last → work ≤ e.work.0)
+up_to_parts last work e is = elim (cases_Bool (e.last == last)) [
+  | inl q ↦ (
+      let same : e.last ≡ last = eqb-true e.last last q in
+      let more : work ≤ e.work.0 = leb-true work e.work.0 (rw q at is) in
+      (omega (arith, same), λ f. more))
+  | inr q ↦ (
+      let low : e.last < last = ltb-true e.last last (rw q at is) in
+      (omega (arith, low), λ f. absurd (omega (arith, f, low))))
+]
+
+pub up_to_of : (last work : ℕ) (e : Entry) → e.last ≤ last → (e.last ≡ last → work ≤ e.work.0) → is_up_to last work e ≡ true
+up_to_of last work e low more = elim (cases_Bool (e.last == last)) [
+  | inl q ↦ rw (q, le-leb work e.work.0 (more (eqb-true e.last last q))) refl
+  | inr q ↦ (let n = eqb-false e.last last q in rw (q, lt-ltb e.last last (omega (arith, low, n))) refl)
+]
+
+pub more_first : (entries : List Entry) (last work : ℕ) → AreInOrder entries → IsPartitionedBy (is_up_to last work) entries
+more_first entries last work sorted i j d l m e =
     let a = sorted i j d l m in
-    let b = ltb-true (get_or entries j d).rank rank e in
-    lt-ltb (get_or entries i d).rank rank (omega (arith, a, b))
+    let b = up_to_parts last work (get_or entries j d) e in
+    up_to_of last work (get_or entries i d) (omega (arith, a.last, b.0))
+    (λ f. (let n : (get_or entries i d).last ≡ (get_or entries j d).last = omega (arith, f, a.last, b.0) in omega (arith, a.work n, b.1 (omega (arith, f, n)))))
 
 module _ (g : Digraph) (sound : IsSoundGraph g) where
   path_all : (u : ℕ) (vs : List ℕ) → u < vertex_count g → IsPath g u vs → All (λ v. v < vertex_count g) (u ∷ vs)
@@ -99,13 +131,6 @@ module _ (bound : ℕ) (g : Digraph) where
       let asks = (over_parts walk x over).2 bound a.0 (omega arith) in
       omega (arith, a.1, b.1, asks)
 
--- Ranks tell last vertices.
-pub rank_last : (last work other less : ℕ) → 1099511627776 * last ≤ rank_of other less → rank_of other less ≤ rank_of last work → other ≡ last
-rank_last last work other less from to = omega arith
-
-pub rank_in : (last work other more : ℕ) → other ≡ last → work ≤ more → (1099511627776 * last ≤ rank_of other more) × (rank_of other more ≤ rank_of last work)
-rank_in last work other more e l = (omega arith, omega arith)
-
 work_small : (g : Digraph) → IsSoundGraph g → (walk : List ℕ) → All (λ v. v < vertex_count g) walk → work g walk ≤ most_time * length walk
 work_small g sound [] all = omega (arith, work_none g)
 work_small g sound (u ∷ vs) all =
@@ -131,22 +156,20 @@ entry_any bound g walks walk entries are k d l over =
     let m = (are.each k d l).number in
     (n, get_or walks (get_or entries k d).number [], m, get_or_default walks n (get_or walks (get_or entries k d).number []) [] m, over)
 
--- The walk of an entry that spans no more and asks for no less dominates, where its rank is that of a walk with the same last vertex.
+-- The walk of an entry that spans no more and asks for no less dominates, where it has the same last vertex.
 module _ (bound : ℕ) (g : Digraph) (walks : List (List ℕ)) (short : All (IsShortWalk bound g) walks) (walk : List ℕ) (is : IsShortWalk bound g walk) where
   pub entry_short : (e : Entry) → IsEntryOf g walks e → IsShortWalk bound g (get_or walks e.number [])
   entry_short e of = short e.number [] of.number
 
-  pub entry_over : (e : Entry) → IsEntryOf g walks e → 1099511627776 * last_in walk ≤ e.rank → e.rank ≤ rank_of (last_in walk) (work g walk) → e.span ≤ span_of g walk
+  pub entry_over : (e : Entry) → IsEntryOf g walks e → e.last ≡ last_in walk → e.span ≤ span_of g walk
       → AsksNoLess bound g walk (get_or walks e.number []) → Any (IsWalkOver bound g walk) walks
-  entry_over e of from to span asks =
-      let x = get_or walks e.number [] in
-      let last = rank_last (last_in walk) (work g walk) (last_in (get_or walks e.number [])) (work g (get_or walks e.number [])) (omega (arith, from, of.rank)) (omega (arith, to, of.rank)) in (
-        e.number,
-        get_or walks e.number [],
-        of.number,
-        get_or_default walks e.number (get_or walks e.number []) [] of.number,
-        over_of bound g walk (get_or walks e.number []) is (entry_short e of) last (omega (arith, span, of.span)) asks,
-      )
+  entry_over e of last span asks = (
+    e.number,
+    get_or walks e.number [],
+    of.number,
+    get_or_default walks e.number (get_or walks e.number []) [] of.number,
+    over_of bound g walk (get_or walks e.number []) is (entry_short e of) (omega (arith, last, of.last)) (omega (arith, span, of.span)) asks,
+  )
 
   -- The entry of a walk that dominates.
   pub record HasOver (entries : List Entry) : Type 0 where
@@ -155,8 +178,8 @@ module _ (bound : ℕ) (g : Digraph) (walks : List (List ℕ)) (short : All (IsS
     pub entry : Entry
     pub at : get_or entries place entry ≡ entry
     pub over : IsWalkOver bound g walk (get_or walks entry.number [])
-    pub from : 1099511627776 * last_in walk ≤ entry.rank
-    pub to : entry.rank ≤ rank_of (last_in walk) (work g walk)
+    pub last : entry.last ≡ last_in walk
+    pub more : work g walk ≤ entry.work.0
 
   pub over_entry : (entries : List Entry) → AreWalkEntries bound g walks entries → Any (IsWalkOver bound g walk) walks → HasOver entries
   over_entry entries are (n, x, l, at, over) =
@@ -166,39 +189,66 @@ module _ (bound : ℕ) (g : Digraph) (walks : List (List ℕ)) (short : All (IsS
       let over' : IsWalkOver bound g walk (get_or walks e.number []) = over_trans g bound walk x (get_or walks e.number []) over
       (subst (λ w. IsWalkOver bound g w (get_or walks e.number [])) at found.4) in
       let more = over_work bound g walk (get_or walks e.number []) is (entry_short e of) over' in
-      let ranks = rank_in (last_in walk) (work g walk) (last_in (get_or walks e.number [])) (work g (get_or walks e.number [])) (over_parts bound g walk (get_or walks e.number []) over').0 more in
       record {
         place = found.0;
         within = found.2;
         entry = e;
         at = found.3;
         over = over';
-        from = omega (arith, ranks.0, of.rank);
-        to = omega (arith, ranks.1, of.rank);
+        last = omega (arith, (over_parts bound g walk (get_or walks e.number []) over').0, of.last);
+        more = omega (arith, more, of.work);
       }
 
--- In order, entries are in order of rank.
-by_rank : (low high : Entry) → low.span < 4294967296 → low.digest < 4294967296 → high.span < 4294967296 → high.digest < 4294967296 → order_of low ≤ order_of high → low.rank ≤ high.rank
-by_rank low high a b c d le = omega arith
+-- Entries that are neighbours in order are in order of last vertices and work.
+pub after_next : (e f : Entry) → is_lt (compare f e) ≡ false → IsNoLater e f
+after_next e f not_before = record { last = low (cases_lt f.last e.last); work = λ same. work same (cases_lt e.work.0 f.work.0) }
+  where
+    differ : true ≡ false → ⊥
+    differ e = cc
+
+    low : (f.last < e.last) ⊎ (e.last ≤ f.last) → e.last ≤ f.last
+    low (inl q) = absurd (differ (rw (lt-ltb f.last e.last q) at not_before))
+    low (inr q) = q
+
+    work : e.last ≡ f.last → (e.work.0 < f.work.0) ⊎ (f.work.0 ≤ e.work.0) → f.work.0 ≤ e.work.0
+    work same (inl q) = absurd (differ (rw (le-ltb f.last e.last (omega (arith, same)), eq-eqb f.last e.last (sym same), lt-ltb e.work.0 f.work.0 q) at not_before))
+    work same (inr q) = q
+
+pub no_later_self : (e : Entry) → IsNoLater e e
+no_later_self e = record { last = omega arith; work = λ same. omega arith }
+
+no_later_trans : (e f h : Entry) → IsNoLater e f → IsNoLater f h → IsNoLater e h
+no_later_trans e f h a b = record {
+  last = omega (arith, a.last, b.last);
+  work = λ same. (let m : e.last ≡ f.last = omega (arith, same, a.last, b.last) in omega (arith, a.work m, b.work (omega (arith, same, m))));
+}
+
+-- So all are.
+pub in_order : (entries : List Entry) → IsSorted compare entries → AreInOrder entries
+in_order entries sorted j k d l m =
+    let e : j + (k - j) ≡ k = omega (arith, l) in
+    subst (λ n. IsNoLater (get_or entries j d) (get_or entries n d)) e (far (k - j) (omega (arith, l, m)))
+  where
+    far : (n : ℕ) → j + n < length entries → IsNoLater (get_or entries j d) (get_or entries (j + n) d)
+    far zero o = (let e : j ≡ j + 0 = omega arith in subst (λ n. IsNoLater (get_or entries j d) (get_or entries n d)) e (no_later_self (get_or entries j d)))
+    far (suc n) o =
+        let e : j + n + 1 ≡ j + suc n = omega arith in
+        let here = after_next (get_or entries (j + n) d) (get_or entries (j + n + 1) d) (sorted (j + n) d (omega arith) (omega (arith, o))) in
+        subst (λ i. IsNoLater (get_or entries j d) (get_or entries i d)) e
+        (no_later_trans (get_or entries j d) (get_or entries (j + n) d) (get_or entries (j + n + 1) d) (far n (omega (arith, o))) here)
 
 -- Entries at their numbers, put in order.
-pub entries_sorted : (bound : ℕ) (g : Digraph) (walks : List (List ℕ)) (listed entries : List Entry) → bound ≤ most_time → All (IsShortWalk bound g) walks
-    → IsListed g walks listed (length walks) → IsPermutation listed entries → IsNonDecreasingBy order_of entries → AreWalkEntries bound g walks entries
-entries_sorted bound g walks listed entries b short is permutation sorted =
-    let each : All (IsEntryOf g walks) entries = All-permutation (IsEntryOf g walks) listed entries permutation (λ k d l. (is.each k d (omega (arith, l, is.long))).0) in
-    let small : (k : ℕ) (d : Entry) → k < length entries → (get_or entries k d).span < 4294967296
-    = (λ k d l. (let of = each k d l in let s = short_span bound g (get_or walks (get_or entries k d).number []) (short (get_or entries k d).number [] of.number) in omega (arith, s, of.span, b))) in
-    record {
-      each = each;
-      every = λ n x l.
-          let d : Entry = record { rank = 0; number = 0; span = 0; digest = 0 } in
-          let e : Entry = get_or listed n d in
-          let m : n < length listed = omega (arith, l, is.long) in
-          let at = Contains-permutation listed entries e permutation (n, m, get_or_default listed n e d m) in
-          let number : e.number ≡ n = (is.each n d l).1 in
-          let same : get_or walks n x ≡ get_or walks e.number [] = get_or_default walks n x [] l ∙ ap (λ k. get_or walks k []) (sym number) in
-          (at.0, e, at.1, at.2, subst (λ w. IsWalkOver bound g (get_or walks n x) w) same (over_self g bound (get_or walks n x) (short n x l)));
-      sorted = λ j k d l m.
-          let o : j < length entries = omega arith in
-          by_rank (get_or entries j d) (get_or entries k d) (small j d o) (each j d o).digest (small k d m) (each k d m).digest (sorted j k d l m);
-    }
+pub entries_sorted : (bound : ℕ) (g : Digraph) (walks : List (List ℕ)) (listed entries : List Entry) → All (IsShortWalk bound g) walks
+    → IsListed g walks listed (length walks) → IsPermutation listed entries → IsSorted compare entries → AreWalkEntries bound g walks entries
+entries_sorted bound g walks listed entries short is permutation sorted = record {
+  each = All-permutation (IsEntryOf g walks) listed entries permutation (λ k d l. (is.each k d (omega (arith, l, is.long))).0);
+  every = λ n x l.
+      let d : Entry = record { last = 0; work = record { 0 = 0 }; span = 0; digest = 0; number = 0 } in
+      let e : Entry = get_or listed n d in
+      let m : n < length listed = omega (arith, l, is.long) in
+      let at = Contains-permutation listed entries e permutation (n, m, get_or_default listed n e d m) in
+      let number : e.number ≡ n = (is.each n d l).1 in
+      let same : get_or walks n x ≡ get_or walks e.number [] = get_or_default walks n x [] l ∙ ap (λ k. get_or walks k []) (sym number) in
+      (at.0, e, at.1, at.2, subst (λ w. IsWalkOver bound g (get_or walks n x) w) same (over_self g bound (get_or walks n x) (short n x l)));
+  sorted = in_order entries sorted;
+}
