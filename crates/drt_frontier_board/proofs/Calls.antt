@@ -22,7 +22,7 @@ use Rattle.drt_refine.specs.declared.step.FrontierStep.{FrontierStep}
 use Rattle.drt_refine.specs.declared.step.FrontierStep.TheVariants.{Take, Pass, Split, Fail}
 use Rattle.drt_refine.proofs.Making.{Logs, same, adds, step_logs, frontier_facts}
 use Rattle.drt_refine.proofs.Settling.{settle_can, settle_eager, take_eager}
-use Rattle.drt_frontier_board.specs.Board.{BoardOf, terms_of, CanMake, IsFrontierStepMade}
+use Rattle.drt_frontier_board.specs.FrontierBoard.{BoardOf, terms_of, CanMake, IsFrontierStepMade}
 use Rattle.drt_frontier_board.specs.Finds.{HasCopy, IsFoundCombination, is_that_combination, is_expected_combination}
 use Rattle.drt_frontier_board.specs.Replies.{frontier_logged_by, taken_by, IsReplyTo}
 use Rattle.drt_frontier_board.specs.declared.answer.FrontierFound.{FrontierFound}

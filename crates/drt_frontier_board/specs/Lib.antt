@@ -1,3 +1,3 @@
 pub mod Finds
 pub mod Replies
-pub mod Board
+pub mod FrontierBoard

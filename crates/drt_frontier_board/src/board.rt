@@ -4,7 +4,7 @@ ghost use Rattle.std.specs.Prelude.{◌≡◌, ◌≢◌, ℕ, ◌<◌, MatchBoo
 ghost use Rattle.drt_refine.specs.Eager.{IsEager};
 ghost use Rattle.drt_refine.specs.Facts.{AreInPlace};
 ghost use Rattle.drt_refine.specs.View.{IsFrontier};
-ghost use Rattle.drt_frontier_board.specs.Board.{terms_of, CanMake, IsFrontierCall, IsFrontierStepMade, IsCopied};
+ghost use Rattle.drt_frontier_board.specs.FrontierBoard.{terms_of, CanMake, IsFrontierCall, IsFrontierStepMade, IsCopied};
 ghost use Rattle.drt_frontier_board.specs.Finds.{IsFoundCombination, is_expected_combination, is_that_combination};
 ghost use Rattle.drt_frontier_board.specs.Replies.{taken_by};
 ghost use Rattle.drt_frontier_board.specs.declared.answer.FrontierFound.{FrontierFound as Found};
@@ -19,15 +19,15 @@ use std::snapshot::Snapshot;
 
 /// A frontier over the forest that it was started with. Its log is eager.
 #[derive(Drop)]
-pub struct Board {
+pub struct FrontierBoard {
     forest: Snapshot<Forest>,
     frontier: Frontier,
 }
 
-impl Model for Board {
+impl Model for FrontierBoard {
     ghost use Rattle.drt_refine.specs.Eager.{IsEager};
     ghost use Rattle.drt_refine.specs.View.{IsFrontier};
-    ghost use Rattle.drt_frontier_board.specs.Board.{BoardOf, terms_of};
+    ghost use Rattle.drt_frontier_board.specs.FrontierBoard.{BoardOf, terms_of};
 
     ghost Value = { BoardOf };
 
@@ -36,25 +36,25 @@ impl Model for Board {
     ghost invariant = { λ b. IsFrontier b.forest.value b.frontier × IsEager (terms_of (record { forest = b.forest.value; frontier = b.frontier })) b.frontier.log };
 }
 
-impl Guarded for Board {
+impl Guarded for FrontierBoard {
     type Fixed = Terms;
 
     ghost use Rattle.std.specs.Prelude.{length};
-    ghost use Rattle.drt_frontier_board.specs.Board.{terms_of};
+    ghost use Rattle.drt_frontier_board.specs.FrontierBoard.{terms_of};
 
     ghost fixed = { λ b. terms_of b };
 
     ghost entries = { λ b. length b.frontier.log };
 }
 
-impl Board {
+impl FrontierBoard {
     /// A board of the forest and a frontier over it, of which no step was made.
-    pub fn new(forest: &Forest, frontier: Frontier) -> Board
+    pub fn new(forest: &Forest, frontier: Frontier) -> FrontierBoard
         requires frontier { IsFrontier forest.now frontier }
         requires empty { frontier.log ≡ [] }
         ensures { result ≡ record { forest = forest.now; frontier = frontier } }
     {
-        Board {
+        FrontierBoard {
             forest: Snapshot::of(forest),
             frontier,
         }

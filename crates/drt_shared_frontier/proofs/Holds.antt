@@ -5,7 +5,7 @@ use Rattle.drt_refine.specs.Facts.{AreInPlace}
 use Rattle.drt_refine.specs.Machine.{FrontierSetting}
 use Rattle.drt_refine.specs.declared.step.FrontierStep.{FrontierStep}
 use Rattle.drt_refine.specs.declared.step.FrontierStep.TheVariants.{Take, Pass, Split, Fail}
-use Rattle.drt_frontier_board.specs.Board.{CanMake, CanSettle}
+use Rattle.drt_frontier_board.specs.FrontierBoard.{CanMake, CanSettle}
 use Rattle.drt_shared_frontier.specs.Passes.{FrontierPassOf, SharedFrontierOf, IsNewPass}
 use Rattle.drt_shared_frontier.specs.Shared.{IsFresh}
 

@@ -3,7 +3,7 @@ use denote.Param.Send.{IsSend, IsSync, sendable}
 use Rattle.std.proofs.Crossing.{crosses}
 use Rattle.drt_lock.proofs.Crossing.{kept_sync, lease_sync, seat_send, shared_sync}
 use Rattle.drt_refine.specs.contracts.frontier.Frontier.{the_row as frontier_row}
-use Rattle.drt_frontier_board.specs.contracts.board.Board.{the_row as board_row}
+use Rattle.drt_frontier_board.specs.contracts.board.FrontierBoard.{the_row as board_row}
 use Rattle.drt_shared_frontier.specs.contracts.pass.FrontierPass.{the_row as pass_row}
 use Rattle.drt_shared_frontier.specs.contracts.shared.SharedFrontier.{the_row as shared_frontier_row}
 

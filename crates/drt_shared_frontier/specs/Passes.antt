@@ -3,7 +3,7 @@ use Rattle.std.specs.Prelude.{◌≡◌, ℕ, ◌+◌, Option, None, Some, List}
 use Rattle.atomic_table.specs.Seated.{TableId}
 use Rattle.drt_refine.specs.Facts.{AreInPlace}
 use Rattle.drt_refine.specs.Machine.{FrontierSetting}
-use Rattle.drt_frontier_board.specs.Board.{KeepsCopy}
+use Rattle.drt_frontier_board.specs.FrontierBoard.{KeepsCopy}
 use Rattle.drt_frontier_board.specs.Replies.{frontier_logged, held_after}
 use Rattle.drt_frontier_board.specs.declared.answer.FrontierAnswer.{FrontierAnswer}
 

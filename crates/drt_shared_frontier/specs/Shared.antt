@@ -9,7 +9,7 @@ use Rattle.drt_lock.specs.declared.view.SeatView.{SeatView}
 use Rattle.drt_lock.specs.Seats.{Rests}
 use Rattle.drt_pool.specs.Turns.{EachPlace}
 use Rattle.drt_refine.specs.Machine.{FrontierSetting}
-use Rattle.drt_frontier_board.specs.Board.{BoardOf}
+use Rattle.drt_frontier_board.specs.FrontierBoard.{BoardOf}
 use Rattle.drt_shared_frontier.specs.Passes.{FrontierPassOf}
 
 -- The pass at that place, as it is given out.

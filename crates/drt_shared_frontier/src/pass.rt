@@ -3,7 +3,7 @@
 ghost use Rattle.std.specs.Prelude.{◌≡◌, ℕ, Some};
 
 use atomic_table::Seat;
-use drt_frontier_board::{Board, Terms};
+use drt_frontier_board::{FrontierBoard, Terms};
 use drt_lock::SeatView;
 use std::marker::Model;
 
@@ -15,7 +15,7 @@ pub struct FrontierPass {
     pub(crate) count: u64,
     pub(crate) held: Option<u32>,
     pub(crate) nodes: Vec<u32>,
-    pub(crate) seat: Seat<Board, SeatView<Terms>>,
+    pub(crate) seat: Seat<FrontierBoard, SeatView<Terms>>,
 }
 
 impl Model for FrontierPass {

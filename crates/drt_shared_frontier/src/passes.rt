@@ -11,7 +11,7 @@ ghost use Rattle.drt_worklist.specs.Places.{total};
 
 use crate::pass::FrontierPass;
 use atomic_table::Seat;
-use drt_frontier_board::{Board, Terms};
+use drt_frontier_board::{FrontierBoard, Terms};
 use drt_lock::{Lock, SeatView};
 use drt_model::Memory;
 use drt_refine::Frontier;
@@ -20,8 +20,8 @@ use std::alloc::Global;
 // Gives out so many passes, one part of the owner's seat to each, and to each the room for a copy of nodes.
 pub(crate) fn deal(
     alloc: Global,
-    lock: &Lock<Board>,
-    owner: &mut Seat<Board, SeatView<Terms>>,
+    lock: &Lock<FrontierBoard>,
+    owner: &mut Seat<FrontierBoard, SeatView<Terms>>,
     roots: &[u32],
     count: u32,
 ) -> Result<Vec<FrontierPass>, Memory>
@@ -49,8 +49,8 @@ pub(crate) fn deal(
 
 // Takes the counts of the passes together. The frontier's log has as many entries.
 pub(crate) fn gather(
-    lock: Lock<Board>,
-    mut owner: Seat<Board, SeatView<Terms>>,
+    lock: Lock<FrontierBoard>,
+    mut owner: Seat<FrontierBoard, SeatView<Terms>>,
     mut passes: Vec<FrontierPass>,
 ) -> Frontier
     requires name { owner.table_id ≡ lock.name }

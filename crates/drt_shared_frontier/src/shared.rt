@@ -11,7 +11,7 @@ ghost use Rattle.drt_refine.specs.View.{IsFrontier, setting_of};
 ghost use Rattle.drt_refine.specs.declared.step.FrontierStep.TheVariants.{Take};
 ghost use Rattle.drt_steps.specs.Time.{AreChosen};
 ghost use Rattle.drt_worklist.specs.Places.{total};
-ghost use Rattle.drt_frontier_board.specs.Board.{BoardOf, terms_of, CanMake, CanSettle, IsFrontierCall};
+ghost use Rattle.drt_frontier_board.specs.FrontierBoard.{BoardOf, terms_of, CanMake, CanSettle, IsFrontierCall};
 ghost use Rattle.drt_frontier_board.specs.Finds.{FrontierDiffersIfStrange};
 ghost use Rattle.drt_shared_frontier.specs.Passes.{IsPassOfFrontier, IsNewPass, HasMoved};
 ghost use Rattle.drt_frontier_board.specs.Replies.{ForFrontierReply, IsReplyTo, frontier_logged, held_after, held_by};
@@ -19,7 +19,7 @@ ghost use Rattle.drt_frontier_board.specs.Replies.{ForFrontierReply, IsReplyTo, 
 use crate::pass::FrontierPass;
 use crate::passes::{deal, gather};
 use atomic_table::Seat;
-use drt_frontier_board::{Board, FrontierAnswer, Terms, is_number};
+use drt_frontier_board::{FrontierBoard, FrontierAnswer, Terms, is_number};
 use drt_lock::{Kept, Lock, SeatView};
 use drt_model::{Memory, Row};
 use drt_refine::{Frontier, FrontierReply, FrontierStep, choose_place};
@@ -35,9 +35,9 @@ use std::sync::Wait;
 /// which is eager, from the opening state of the start.
 #[derive(Drop)]
 pub struct SharedFrontier {
-    lock: Lock<Board>,
+    lock: Lock<FrontierBoard>,
     // The seat with the parts that no pass has.
-    owner: Kept<Seat<Board, SeatView<Terms>>>,
+    owner: Kept<Seat<FrontierBoard, SeatView<Terms>>>,
     passes: u32,
     wcet: u32,
     deadline: u32,
@@ -78,7 +78,7 @@ impl SharedFrontier {
     {
         let frontier = Frontier::start(alloc, forest, roots, wcet, deadline, budget)?;
         let terms = Terms::new(forest, &frontier);
-        let board = Board::new(forest, frontier);
+        let board = FrontierBoard::new(forest, frontier);
         let (lock, mut owner) = Lock::new(alloc, board, Snapshot::of(&terms))?;
         let given = deal(alloc, &lock, &mut owner, roots, passes)?;
         let owner = Kept::new(alloc, owner)?;
@@ -203,7 +203,7 @@ impl SharedFrontier {
     // The call on the frontier that is out with the seat.
     fn act(
         &self,
-        seat: &mut Seat<Board, SeatView<Terms>>,
+        seat: &mut Seat<FrontierBoard, SeatView<Terms>>,
         forest: &Forest,
         worker: u32,
         held: Option<u32>,
@@ -225,7 +225,7 @@ impl SharedFrontier {
     // Counts the step where it is logged, and answers how many were.
     fn tally(
         &self,
-        seat: &mut Seat<Board, SeatView<Terms>>,
+        seat: &mut Seat<FrontierBoard, SeatView<Terms>>,
         held: Option<u32>,
         answer: FrontierAnswer,
     ) -> u64

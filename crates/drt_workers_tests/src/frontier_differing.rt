@@ -1,11 +1,11 @@
 //! Workers that say something else than the frontier. No pass can be made to, so they call the board that the lock guards.
 
 ghost use Rattle.std.specs.Prelude.{◌≡◌, ◌≤◌, length};
-ghost use Rattle.drt_frontier_board.specs.Board.{terms_of};
+ghost use Rattle.drt_frontier_board.specs.FrontierBoard.{terms_of};
 ghost use Rattle.drt_refine.specs.Facts.{AreInPlace};
 
 use crate::frontier_driver::has_log;
-use drt_frontier_board::{Board, FrontierAnswer, FrontierFound, is_copy};
+use drt_frontier_board::{FrontierBoard, FrontierAnswer, FrontierFound, is_copy};
 use drt_refine::{Frontier, FrontierReply, FrontierStep};
 use drt_steps::least_time;
 use drt_tree::Forest;
@@ -22,7 +22,7 @@ type Case = (u32, Option<u32>, FrontierAnswer);
 
 // The call of a worker that says so: it takes a combination, or lets the one that it says it holds pass. None where no time passes.
 fn call(
-    board: &mut Board,
+    board: &mut FrontierBoard,
     forest: &Forest,
     nodes: &mut Vec<u32>,
     worker: u32,
@@ -44,7 +44,7 @@ fn call(
 }
 
 // How many of the cases are answered as they are to be, up to the first that isn't.
-fn follow(board: &mut Board, forest: &Forest, nodes: &mut Vec<u32>, cases: &[Case]) -> usize
+fn follow(board: &mut FrontierBoard, forest: &Forest, nodes: &mut Vec<u32>, cases: &[Case]) -> usize
     requires forest { forest.now ≡ (terms_of board.old).forest }
     requires job { ((terms_of board.old).wcet ≡ WCET) × ((terms_of board.old).deadline ≡ DEADLINE) }
     requires few { length (terms_of board.old).roots ≤ 31 }
@@ -108,7 +108,7 @@ const LOG: [(u32, FrontierStep); 2] = [
 fn are_followed(alloc: Global) -> Result<bool, Fail> {
     let forest = Forest::empty(alloc);
     let frontier = Frontier::start(alloc, &forest, &[], WCET, DEADLINE, 10)?;
-    let mut board = Board::new(&forest, frontier);
+    let mut board = FrontierBoard::new(&forest, frontier);
     let mut nodes = Vec::new(alloc);
     let followed = follow(&mut board, &forest, &mut nodes, &CASES);
     let frontier = board.into_frontier();

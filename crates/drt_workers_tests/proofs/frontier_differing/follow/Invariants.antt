@@ -1,5 +1,5 @@
 use Rattle.std.proofs.Common.{◌≡◌}
-use Rattle.drt_frontier_board.specs.Board.{terms_of}
+use Rattle.drt_frontier_board.specs.FrontierBoard.{terms_of}
 use Rattle.drt_refine.specs.Facts.{AreInPlace}
 use Rattle.drt_workers_tests.proofs.frontier_differing.follow.Given as goal
 

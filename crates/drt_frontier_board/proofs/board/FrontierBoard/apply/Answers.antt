@@ -2,9 +2,9 @@ use Rattle.std.proofs.Common.{ap, sym, ◌∙◌, subst}
 use Rattle.drt_refine.specs.Eager.{IsEagerStep}
 use Rattle.drt_refine.specs.Machine.{CanStep}
 use Rattle.drt_refine.specs.View.{setting_of, state_of, IsFrontier, IsFrontierStep}
-use Rattle.drt_frontier_board.specs.Board.{BoardOf, terms_of}
+use Rattle.drt_frontier_board.specs.FrontierBoard.{BoardOf, terms_of}
 use Rattle.drt_frontier_board.proofs.Calls.{can_go, eager_kept, made}
-use Rattle.drt_frontier_board.proofs.board.Board.apply.Goals as goal
+use Rattle.drt_frontier_board.proofs.board.FrontierBoard.apply.Goals as goal
 
 pub apply-requires-clause-can : goal.apply-requires-clause-can
 apply-requires-clause-can c =

@@ -1,8 +1,8 @@
 use Rattle.std.proofs.Common.{Some, sym, ◌∙◌, subst}
-use Rattle.drt_frontier_board.specs.Board.{BoardOf}
+use Rattle.drt_frontier_board.specs.FrontierBoard.{BoardOf}
 use Rattle.drt_frontier_board.specs.Finds.{IsFoundCombination}
 use Rattle.drt_frontier_board.proofs.Calls.{combination_within, found_one}
-use Rattle.drt_frontier_board.proofs.board.Board.find.Goals as goal
+use Rattle.drt_frontier_board.proofs.board.FrontierBoard.find.Goals as goal
 
 pub combination-requires : goal.combination-requires
 combination-requires c = combination_within c.self.inside.frontier.combinations c.args.worker c.in-Some.id (sym c.held_by.ensures ∙ c.in-Some.is)

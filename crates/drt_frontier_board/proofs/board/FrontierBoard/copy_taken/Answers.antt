@@ -1,8 +1,8 @@
 use Rattle.std.proofs.Common.{◌<◌, length, ap, sym, ◌∙◌, subst, arith}
 use Rattle.drt_refine.specs.Facts.{AreInPlace}
-use Rattle.drt_frontier_board.specs.Board.{BoardOf, terms_of}
+use Rattle.drt_frontier_board.specs.FrontierBoard.{BoardOf, terms_of}
 use Rattle.drt_frontier_board.proofs.Calls.{in_place}
-use Rattle.drt_frontier_board.proofs.board.Board.copy_taken.Goals as goal
+use Rattle.drt_frontier_board.proofs.board.FrontierBoard.copy_taken.Goals as goal
 
 pub copy_from_slice-requires : goal.copy_from_slice-requires
 copy_from_slice-requires c =
