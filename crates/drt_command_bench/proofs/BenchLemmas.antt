@@ -13,8 +13,8 @@ use Rattle.drt_claims.specs.Fronts.{IsOrdered}
 use Rattle.drt_graph.specs.FrontEntry.{IsNextEntry}
 use Rattle.drt_claims.specs.Rates.{IsAtOne}
 use Rattle.drt_claims.specs.declared.evidence.RatioClaim.{RatioClaim}
-use Rattle.drt_claims.specs.declared.evidence.ProofClaim.{ProofClaim}
-use Rattle.drt_claims.specs.declared.evidence.TreeClaim.{TreeClaim}
+use Rattle.drt_claims.specs.declared.evidence.Evidence.{Evidence}
+use Rattle.drt_claims.specs.declared.evidence.Evidence.TheVariants.{EdfYes, EdfNo, UtilisationOne, FixedYes, FixedStates, FixedNo, Undecided}
 use Rattle.drt_claims.specs.declared.rule.Rule.TheVariants.{OrderedFronts}
 use Rattle.drt_horizon.specs.declared.answers.Beyond.TheVariants.{TooFar}
 use Rattle.drt_edf.specs.Answers.{IsExactEdfYes, IsEdfMiss, IsOther, IsEdfUndecided}
@@ -112,21 +112,33 @@ yes_counts tasks ratios fronts exact =
     record { bound = exact.bound; below = exact.below; each = counts_each exact.bound b (graphs_of tasks) fronts exact.exact ordered }
 
 module _ (set : Contents) where
-  pub fixed_yes_says : (trees : List TreeClaim) (proofs : List ProofClaim) → fixed_answers.IsExactTreeYes set trees proofs → FixedSays set on_fixed.Yes None
-  fixed_yes_says trees proofs exact = record {
-    yes = λ e. exact.schedulable;
+  pub fixed_yes_says : (evidence : Evidence) → fixed_answers.IsTreeYes set evidence → FixedSays set on_fixed.Yes None
+  fixed_yes_says (EdfYes ratios fronts) is = absurd is.0
+  fixed_yes_says (EdfNo releases miss) is = absurd is.0
+  fixed_yes_says (UtilisationOne ratios) is = absurd is.0
+  fixed_yes_says (FixedYes trees proofs) is = record {
+    yes = λ e. is.0.schedulable;
     no = λ e. absurd (cc);
     undecided = (λ e. absurd (cc), λ some. absurd (true≢false (sym some)));
     cause = tt;
   }
+  fixed_yes_says (FixedStates tails searches) is = absurd is.0
+  fixed_yes_says (FixedNo releases miss) is = absurd is.0
+  fixed_yes_says Undecided is = absurd is.0
 
-  pub fixed_no_says : (releases : List Release) (miss : Miss) → fixed_answers.IsTreeMiss set releases miss → FixedSays set on_fixed.No None
-  fixed_no_says releases miss missed = record {
+  pub fixed_no_says : (evidence : Evidence) → fixed_answers.IsTreeNo set evidence → FixedSays set on_fixed.No None
+  fixed_no_says (EdfYes ratios fronts) is = absurd is.0
+  fixed_no_says (EdfNo releases miss) is = absurd is.0
+  fixed_no_says (UtilisationOne ratios) is = absurd is.0
+  fixed_no_says (FixedYes trees proofs) is = absurd is.0
+  fixed_no_says (FixedStates tails searches) is = absurd is.0
+  fixed_no_says (FixedNo releases miss) is = record {
     yes = λ e. absurd (cc);
-    no = λ e. missed.not_schedulable;
+    no = λ e. is.0.not_schedulable;
     undecided = (λ e. absurd (cc), λ some. absurd (true≢false (sym some)));
     cause = tt;
   }
+  fixed_no_says Undecided is = absurd is.0
 
   pub fixed_undecided_says : (trail : FixedTrail) → fixed_answers.IsTreeUndecided set most_budget trail → FixedSays set on_fixed.Undecided (Some trail)
   fixed_undecided_says trail spent = record {

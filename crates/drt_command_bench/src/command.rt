@@ -29,7 +29,7 @@ use drt_model::{Memory, Row, TaskSet};
 use drt_outcome::Outcome;
 use drt_outcome::outcome::{Trail, YES};
 use drt_pool::Gate;
-use drt_sp::{FixedAnswer, FixedTrail, analyse_fixed};
+use drt_sp::{Answer, FixedTrail, analyse_fixed};
 use drt_summary::{EdfVerdict, FixedVerdict, Summary, print};
 use drt_words::Workers;
 use std::alloc::Global;
@@ -199,22 +199,15 @@ fn decide_fixed<G: Gate, R: Threads + Wait + Sync>(
     ensures { IfOk result (λ f. FixedSays set.now f.verdict f.trail) }
 {
     match analyse_fixed(crew, set)? {
-        FixedAnswer::Done(Evidence::FixedYes { .. }) => Ok(FixedFinding {
+        Answer::Meets(_) => Ok(FixedFinding {
             verdict: FixedVerdict::Yes,
             trail: None,
         }),
-        FixedAnswer::Done(Evidence::FixedNo { .. }) => Ok(FixedFinding {
+        Answer::Misses(_) => Ok(FixedFinding {
             verdict: FixedVerdict::No,
             trail: None,
         }),
-        FixedAnswer::Done(
-            Evidence::EdfYes { .. }
-            | Evidence::EdfNo { .. }
-            | Evidence::UtilisationOne { .. }
-            | Evidence::FixedStates { .. }
-            | Evidence::Undecided,
-        ) => unreachable!(),
-        FixedAnswer::Undecided(trail) => Ok(FixedFinding {
+        Answer::Undecided(trail) => Ok(FixedFinding {
             verdict: FixedVerdict::Undecided,
             trail: Some(trail),
         }),

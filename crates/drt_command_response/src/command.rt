@@ -28,7 +28,7 @@ use drt_outcome::Outcome;
 use drt_outcome::outcome::{Trail, YES};
 use drt_pool::Gate;
 use drt_response::{
-    Response, ResponseAnswer, ResponseTrail, budgets_suffice_for_responses, print, respond,
+    Answer, Response, ResponseTrail, budgets_suffice_for_responses, print, respond,
 };
 use std::alloc::Global;
 use std::sync::Wait;
@@ -107,11 +107,11 @@ fn answer<G: Gate, R: Threads + Wait + Sync>(
 {
     let alloc = crew.alloc;
     match respond(crew, &Accepted::of(&set, graphs)) {
-        Ok(ResponseAnswer::Done(responses)) => print_responses(alloc, responses.as_slice()),
-        Ok(ResponseAnswer::Missed(evidence)) => {
+        Ok(Answer::Meets(responses)) => print_responses(alloc, responses.as_slice()),
+        Ok(Answer::Misses(evidence)) => {
             make_report(alloc, Policy::Fixed, set, evidence, Trail::Nothing)
         }
-        Ok(ResponseAnswer::Undecided(trail)) => {
+        Ok(Answer::Undecided(trail)) => {
             let trail = make_trail(trail);
             make_report(alloc, Policy::Fixed, set, Evidence::Undecided, trail)
         }

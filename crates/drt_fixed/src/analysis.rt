@@ -2,7 +2,7 @@
 ghost use Rattle.std.specs.Prelude.{◌≡◌, ℕ, ◌≤◌, IfOk};
 ghost use Rattle.drt_model.specs.Contents.{Contents};
 ghost use Rattle.drt_claims.specs.Ranges.{IsEvidenceInRange};
-ghost use Rattle.drt_sp.specs.Answers.{IsTreeUndecided, IsTreeVerdict};
+ghost use Rattle.drt_sp.specs.Answers.{IsTreeUndecided};
 ghost use Rattle.drt_sp.specs.Evidence.{under_fixed};
 ghost use Rattle.drt_fixed.specs.Answers.{IsAnalysed, IsByStates, IsDecision};
 
@@ -16,7 +16,7 @@ use drt_effort::Effort;
 use drt_model::{Memory, Policy, TaskSet};
 use drt_pool::Gate;
 use drt_priorities::copy_of;
-use drt_sp::{FixedAnswer, FixedTrail};
+use drt_sp::{Answer, FixedTrail};
 use std::sync::Wait;
 use std::thread::Threads;
 
@@ -33,8 +33,8 @@ pub struct Analysed {
 /// Decides whether a set is schedulable under fixed priorities.
 ///
 /// First each table and each frontier of `drt_sp` has the crew's budget or 4,096 steps, whichever is less; in the latter case one worker
-/// makes them. Where these are spent and the budget is greater, the states of each vertex are searched, with the budget for each; and where that finds nothing, tables and frontiers
-/// have the whole budget.
+/// makes them. Where these are spent and the budget is greater, the states of each vertex are searched, with the budget for each; and where
+/// that finds nothing, tables and frontiers have the whole budget.
 pub fn analyse_fixed<G: Gate, R: Threads + Wait + Sync>(
     crew: &Crew<'_, G, R>,
     set: &Accepted<'_>,
@@ -43,18 +43,20 @@ pub fn analyse_fixed<G: Gate, R: Threads + Wait + Sync>(
 {
     let few = crew.with(first_effort(&crew.effort));
     match drt_sp::analyse_fixed(&few, set)? {
-        FixedAnswer::Done(evidence) => return Ok(decided(evidence)),
-        FixedAnswer::Undecided(trail) if crew.effort.budget() <= ALLOWANCE => {
+        Answer::Meets(evidence) => return Ok(decided(evidence)),
+        Answer::Misses(evidence) => return Ok(decided(evidence)),
+        Answer::Undecided(trail) if crew.effort.budget() <= ALLOWANCE => {
             return Ok(undecided(trail));
         }
-        FixedAnswer::Undecided(_) => {}
+        Answer::Undecided(_) => {}
     }
     if let Some(evidence) = decide_by_states(crew, set)? {
-        return Ok(decided_by_states(evidence));
+        return Ok(decided(evidence));
     }
     match drt_sp::analyse_fixed(crew, set)? {
-        FixedAnswer::Done(evidence) => Ok(decided(evidence)),
-        FixedAnswer::Undecided(trail) => Ok(undecided(trail)),
+        Answer::Meets(evidence) => Ok(decided(evidence)),
+        Answer::Misses(evidence) => Ok(decided(evidence)),
+        Answer::Undecided(trail) => Ok(undecided(trail)),
     }
 }
 
@@ -90,19 +92,8 @@ pub fn decide_by_states<G: Gate, R: Threads + Wait + Sync>(
     }
 }
 
-// The answer with this evidence by trees.
+// The answer with this evidence.
 fn decided(evidence: Evidence) -> Analysed
-    requires { IsEvidenceInRange evidence }
-    ensures { (set : Contents) (budget : ℕ) → IsTreeVerdict set evidence → IsAnalysed set budget result }
-{
-    Analysed {
-        evidence,
-        trail: None,
-    }
-}
-
-// The answer with this evidence by tails and states.
-fn decided_by_states(evidence: Evidence) -> Analysed
     ensures { (set : Contents) (budget : ℕ) → IsDecision set evidence → IsAnalysed set budget result }
 {
     Analysed {

@@ -16,20 +16,15 @@ use Rattle.drt_claims.specs.Ranges.{IsEvidenceInRange}
 use Rattle.drt_claims.specs.declared.evidence.Evidence.{Evidence}
 use Rattle.drt_claims.specs.declared.evidence.Evidence.TheVariants.{FixedNo}
 use Rattle.drt_fixed.specs.Answers.{IsNo}
-use Rattle.drt_sp.specs.Answers.{IsVertexReached, IsTreeUndecided}
+use Rattle.drt_sp.specs.Answers.{IsTreeUndecided, IsVertexReached, Says}
 use Rattle.drt_sp.specs.Needs.{IsBelowRefinement}
 use Rattle.drt_sp.specs.Vertices.{subjects}
+use Rattle.drt_sp.specs.declared.answer.Answer.{Answer}
 use Rattle.drt_worst.specs.Splitting.{search_for}
 use Rattle.drt_worst.specs.Spent.{IsSpent}
 use Rattle.drt_responses.specs.declared.response.Response.{Response}
-use Rattle.drt_response.specs.declared.answer.ResponseAnswer.{ResponseAnswer}
-use Rattle.drt_response.specs.declared.answer.ResponseAnswer.TheVariants.{Done, Missed, Undecided}
 use Rattle.drt_response.specs.declared.answer.ResponseTrail.{ResponseTrail}
 use Rattle.drt_response.specs.declared.answer.ResponseTrail.TheVariants.{Fixed as FixedTrailOf, Search}
-use Rattle.drt_response.specs.declared.by_states.StatesResponse.{StatesResponse}
-use Rattle.drt_response.specs.declared.by_states.StatesResponse.TheVariants as states
-use Rattle.drt_response.specs.declared.by_trees.TreesResponse.{TreesResponse}
-use Rattle.drt_response.specs.declared.by_trees.TreesResponse.TheVariants as trees
 use Rattle.drt_response.specs.declared.vertex.VertexResponse.{VertexResponse}
 use Rattle.drt_response.specs.declared.vertex.VertexResponse.TheVariants as outcomes
 
@@ -90,22 +85,12 @@ pub record IsRefused (set : Contents) (evidence : Evidence) : Type 0 where
   pub no : IsNo set releases miss
 
 -- What each answer says, with a budget.
-abbrev pub IsResponseAnswer : Contents → ℕ → ResponseAnswer → Type 0
-IsResponseAnswer set budget (Done responses) = AreResponses set responses
-IsResponseAnswer set budget (Missed evidence) = IsRefused set evidence
-IsResponseAnswer set budget (Undecided trail) = IsUndecidedResponse set budget trail
-
--- What trees say, with a budget.
-abbrev pub IsTreesResponse : Contents → ℕ → TreesResponse → Type 0
-IsTreesResponse set budget (trees.Done responses) = AreResponses set responses
-IsTreesResponse set budget (trees.Missed evidence) = IsRefused set evidence
-IsTreesResponse set budget (trees.Undecided trail) = IsUndecidedResponse set budget trail
+abbrev pub IsResponseAnswer : Contents → ℕ → Answer (List Response) ResponseTrail → Type 0
+IsResponseAnswer set budget answer = Says (AreResponses set) (IsRefused set) (IsUndecidedResponse set budget) answer
 
 -- What tails and states say.
-abbrev pub IsStatesResponse : Contents → StatesResponse → Type 0
-IsStatesResponse set (states.Done responses) = AreResponses set responses
-IsStatesResponse set (states.Missed evidence) = IsRefused set evidence
-IsStatesResponse set states.Nothing = Unit {0}
+abbrev pub IsStatesResponse : Contents → Answer (List Response) Unit → Type 0
+IsStatesResponse set answer = Says (AreResponses set) (IsRefused set) (λ nothing. Unit {0}) answer
 
 -- What came of vertex v of task k.
 abbrev pub IsVertexResponse : Contents → ℕ → ℕ → ℕ → VertexResponse → Type 0

@@ -22,6 +22,7 @@ use drt_fixed::decide_by_states;
 use drt_model::{Memory, Row};
 use drt_pool::Gate;
 use drt_responses::Response;
+use drt_sp::Answer;
 use drt_sp_states::{Responded, search_response};
 use drt_states::{SearchClaim, TailClaim};
 use drt_states_laws::states_pass;
@@ -29,27 +30,17 @@ use std::alloc::Global;
 use std::sync::Wait;
 use std::thread::Threads;
 
-/// What tails and states say of a set.
-#[derive(Drop)]
-pub enum StatesResponse {
-    /// The set is schedulable, with a response for each vertex of each task, in order of the file.
-    Done(Row<Response>),
-    /// The set isn't schedulable, with the evidence.
-    Missed(Evidence),
-    /// Nothing is found.
-    Nothing,
-}
-
-/// What tails and states say of a set, with the crew's budget of states for each vertex.
+/// What tails and states say of a set, with the crew's budget of states for each vertex: a response for each vertex of each task, in order
+/// of the file, or a no with its evidence. They may find neither, and leave no trail then.
 pub fn respond_by_states<G: Gate, R: Threads + Wait + Sync>(
     crew: &Crew<'_, G, R>,
     set: &Accepted<'_>,
-) -> Result<StatesResponse, Memory>
+) -> Result<Answer<Row<Response>, ()>, Memory>
     ensures { IfOk result (IsStatesResponse set.now) }
 {
     match decide_by_states(crew, set)? {
         Some(evidence) => respond_decided(crew, set, evidence),
-        None => Ok(StatesResponse::Nothing),
+        None => Ok(Answer::Undecided(())),
     }
 }
 
@@ -58,7 +49,7 @@ fn respond_decided<G: Gate, R: Threads + Wait + Sync>(
     crew: &Crew<'_, G, R>,
     set: &Accepted<'_>,
     evidence: Evidence,
-) -> Result<StatesResponse, Memory>
+) -> Result<Answer<Row<Response>, ()>, Memory>
     requires decision { IsDecision set.now evidence }
     ensures { IfOk result (IsStatesResponse set.now) }
 {
@@ -66,12 +57,12 @@ fn respond_decided<G: Gate, R: Threads + Wait + Sync>(
         Evidence::FixedStates { tails, searches } => {
             respond_over(crew, set, tails.as_slice(), searches.as_slice())?
         }
-        Evidence::FixedNo { .. } => return Ok(StatesResponse::Missed(evidence)),
+        Evidence::FixedNo { .. } => return Ok(Answer::Misses(evidence)),
         _ => None,
     };
     match found {
-        Some(responses) => Ok(StatesResponse::Done(responses)),
-        None => Ok(StatesResponse::Nothing),
+        Some(responses) => Ok(Answer::Meets(responses)),
+        None => Ok(Answer::Undecided(())),
     }
 }
 

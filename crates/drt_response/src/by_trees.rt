@@ -1,31 +1,19 @@
 //! The greatest response times of all vertices, by trees alone.
 ghost use Rattle.std.specs.Prelude.{◌+◌, ◌<◌, length, IfOk, MatchOption};
 ghost use Rattle.drt_sp.specs.Grown.{AreProvedTrees};
-ghost use Rattle.drt_response.specs.Answers.{AreResponsesTo, IsTreesResponse, IsUndecidedResponse};
+ghost use Rattle.drt_response.specs.Answers.{AreResponsesTo, IsResponseAnswer, IsUndecidedResponse};
 
 use crate::answer::ResponseTrail;
 use crate::subjects::VertexAt;
 use crate::vertex::{VertexResponse, respond_vertex};
 use drt_accepted::Accepted;
-use drt_claims::Evidence;
 use drt_crew::Crew;
 use drt_model::{Memory, Row};
 use drt_pool::Gate;
 use drt_responses::Response;
-use drt_sp::{ProvedTrees, TreesAnswer, analyse_trees};
+use drt_sp::{Answer, ProvedTrees, analyse_trees};
 use std::sync::Wait;
 use std::thread::Threads;
-
-/// What trees say of a set.
-#[derive(Drop)]
-pub(crate) enum TreesResponse {
-    /// The set is schedulable, with a response for each vertex of each task, in order of the file.
-    Done(Row<Response>),
-    /// The set isn't schedulable, with the evidence.
-    Missed(Evidence),
-    /// A budget was spent before there was an answer.
-    Undecided(ResponseTrail),
-}
 
 /// The exact worst response time of each vertex of a set that is schedulable under fixed priorities, in ticks, with releases that reach it;
 /// or the no of the analysis. The workers search together for a response, and the gate sees each of their turns; they take part in the
@@ -36,15 +24,13 @@ pub(crate) enum TreesResponse {
 pub(crate) fn respond_by_trees<G: Gate, R: Threads + Wait + Sync>(
     crew: &Crew<'_, G, R>,
     set: &Accepted<'_>,
-) -> Result<TreesResponse, Memory>
-    ensures { IfOk result (IsTreesResponse set.now crew.now.effort.budget) }
+) -> Result<Answer<Row<Response>, ResponseTrail>, Memory>
+    ensures { IfOk result (IsResponseAnswer set.now crew.now.effort.budget) }
 {
     match analyse_trees(crew, set)? {
-        TreesAnswer::Missed(evidence) => Ok(TreesResponse::Missed(evidence)),
-        TreesAnswer::Undecided(trail) => {
-            Ok(TreesResponse::Undecided(ResponseTrail::Fixed(trail)))
-        }
-        TreesAnswer::Proved(trees) => respond_all(crew, set, &trees),
+        Answer::Meets(trees) => respond_all(crew, set, &trees),
+        Answer::Misses(evidence) => Ok(Answer::Misses(evidence)),
+        Answer::Undecided(trail) => Ok(Answer::Undecided(ResponseTrail::Fixed(trail))),
     }
 }
 
@@ -53,18 +39,18 @@ fn respond_all<G: Gate, R: Threads + Wait + Sync>(
     crew: &Crew<'_, G, R>,
     set: &Accepted<'_>,
     trees: &ProvedTrees,
-) -> Result<TreesResponse, Memory>
+) -> Result<Answer<Row<Response>, ResponseTrail>, Memory>
     requires trees { AreProvedTrees set.now trees.now }
-    ensures { IfOk result (IsTreesResponse set.now crew.now.effort.budget) }
+    ensures { IfOk result (IsResponseAnswer set.now crew.now.effort.budget) }
 {
     let graphs = set.graphs();
     let mut responses = Vec::new(crew.alloc);
     'tasks: for task in 0..graphs.count() {
         if let Some(trail) = respond_task(crew, set, trees, task, &mut responses)? {
-            return Ok(TreesResponse::Undecided(trail));
+            return Ok(Answer::Undecided(trail));
         }
     }
-    Ok(TreesResponse::Done(Row::from_vec(responses)))
+    Ok(Answer::Meets(Row::from_vec(responses)))
 }
 
 // Adds the responses of the vertices of a task to those of the tasks before it. A trail ends it.

@@ -16,8 +16,9 @@ mod responding;
 mod subjects;
 mod vertex;
 
-pub use answer::{ResponseAnswer, ResponseTrail};
-pub use by_states::{StatesResponse, respond_by_states};
+pub use answer::ResponseTrail;
+pub use by_states::respond_by_states;
 pub use drt_responses::{Response, print};
+pub use drt_sp::Answer;
 pub use laws::budgets_suffice_for_responses;
 pub use responding::respond;

@@ -2,14 +2,16 @@
 ghost use Rattle.std.specs.Prelude.{IfOk};
 ghost use Rattle.drt_response.specs.Answers.{IsResponseAnswer};
 
-use crate::answer::ResponseAnswer;
-use crate::by_states::{StatesResponse, respond_by_states};
-use crate::by_trees::{TreesResponse, respond_by_trees};
+use crate::answer::ResponseTrail;
+use crate::by_states::respond_by_states;
+use crate::by_trees::respond_by_trees;
 use drt_accepted::Accepted;
 use drt_crew::Crew;
 use drt_fixed::{ALLOWANCE, first_effort};
-use drt_model::Memory;
+use drt_model::{Memory, Row};
 use drt_pool::Gate;
+use drt_responses::Response;
+use drt_sp::Answer;
 use std::sync::Wait;
 use std::thread::Threads;
 
@@ -22,26 +24,22 @@ use std::thread::Threads;
 pub fn respond<G: Gate, R: Threads + Wait + Sync>(
     crew: &Crew<'_, G, R>,
     set: &Accepted<'_>,
-) -> Result<ResponseAnswer, Memory>
+) -> Result<Answer<Row<Response>, ResponseTrail>, Memory>
     ensures { IfOk result (IsResponseAnswer set.now crew.now.effort.budget) }
 {
     let few = crew.with(first_effort(&crew.effort));
     match respond_by_trees(&few, set)? {
-        TreesResponse::Done(responses) => return Ok(ResponseAnswer::Done(responses)),
-        TreesResponse::Missed(evidence) => return Ok(ResponseAnswer::Missed(evidence)),
-        TreesResponse::Undecided(trail) if crew.effort.budget() <= ALLOWANCE => {
-            return Ok(ResponseAnswer::Undecided(trail));
+        Answer::Meets(responses) => return Ok(Answer::Meets(responses)),
+        Answer::Misses(evidence) => return Ok(Answer::Misses(evidence)),
+        Answer::Undecided(trail) if crew.effort.budget() <= ALLOWANCE => {
+            return Ok(Answer::Undecided(trail));
         }
-        TreesResponse::Undecided(_) => {}
+        Answer::Undecided(_) => {}
     }
     match respond_by_states(crew, set)? {
-        StatesResponse::Done(responses) => return Ok(ResponseAnswer::Done(responses)),
-        StatesResponse::Missed(evidence) => return Ok(ResponseAnswer::Missed(evidence)),
-        StatesResponse::Nothing => {}
+        Answer::Meets(responses) => return Ok(Answer::Meets(responses)),
+        Answer::Misses(evidence) => return Ok(Answer::Misses(evidence)),
+        Answer::Undecided(()) => {}
     }
-    match respond_by_trees(crew, set)? {
-        TreesResponse::Done(responses) => Ok(ResponseAnswer::Done(responses)),
-        TreesResponse::Missed(evidence) => Ok(ResponseAnswer::Missed(evidence)),
-        TreesResponse::Undecided(trail) => Ok(ResponseAnswer::Undecided(trail)),
-    }
+    respond_by_trees(crew, set)
 }

@@ -4,9 +4,9 @@ use drt_accepted::Accepted;
 use drt_crew::Crew;
 use drt_effort::Effort;
 use drt_graph::check;
-use drt_model::{Release, TaskSet};
+use drt_model::{Release, Row, TaskSet};
 use drt_pool::Gate;
-use drt_response::{Response, ResponseAnswer, respond};
+use drt_response::{Answer, Response, ResponseTrail, respond};
 use std::alloc::Global;
 use std::sync::Wait;
 use std::test::Fail;
@@ -46,7 +46,7 @@ pub(crate) fn answer_of<G: Gate, R: Threads + Wait + Sync>(
     workers: u32,
     budget: u64,
     gate: &G,
-) -> Result<ResponseAnswer, Fail> {
+) -> Result<Answer<Row<Response>, ResponseTrail>, Fail> {
     if workers < 1 || workers > 16 || budget < 1 || budget > 1_000_000 {
         return Err("the workers and the budget are in range".into());
     }
@@ -97,15 +97,18 @@ pub(crate) fn end_before_finish(responses: &[Response]) -> bool {
 }
 
 /// Whether the answer has these responses, with releases before each finish; none where it is a no.
-pub(crate) fn is_answer(answer: &ResponseAnswer, ticks: Option<&[Ticks]>) -> bool {
+pub(crate) fn is_answer(
+    answer: &Answer<Row<Response>, ResponseTrail>,
+    ticks: Option<&[Ticks]>,
+) -> bool {
     match answer {
-        ResponseAnswer::Done(responses) => match ticks {
+        Answer::Meets(responses) => match ticks {
             Some(ticks) => {
                 have_ticks(responses.as_slice(), ticks) && end_before_finish(responses.as_slice())
             }
             None => false,
         },
-        ResponseAnswer::Missed(_) => ticks.is_none(),
-        ResponseAnswer::Undecided(_) => false,
+        Answer::Misses(_) => ticks.is_none(),
+        Answer::Undecided(_) => false,
     }
 }

@@ -8,9 +8,9 @@ use drt_effort::Effort;
 use drt_fixtures::{Shape, make_set};
 use drt_graph::check;
 use drt_meeting::Meeting;
-use drt_model::TaskSet;
+use drt_model::{Row, TaskSet};
 use drt_pool::{EagerGate, Gate};
-use drt_response::{ResponseAnswer, StatesResponse, respond_by_states};
+use drt_response::{Answer, Response, respond_by_states};
 use std::alloc::Global;
 use std::sync::Wait;
 use std::test::Fail;
@@ -33,15 +33,15 @@ fn ticks_of<R: Threads + Wait + Sync>(
     set: TaskSet,
 ) -> Result<Option<Vec<Ticks>>, Fail> {
     match answer_of(rt, alloc, set, 1, BUDGET, &EagerGate)? {
-        ResponseAnswer::Done(responses) => {
+        Answer::Meets(responses) => {
             let mut ticks = Vec::new(alloc);
             for response in responses.as_slice() {
                 ticks.push((response.task, response.vertex, response.ticks))?;
             }
             Ok(Some(ticks))
         }
-        ResponseAnswer::Missed(_) => Ok(None),
-        ResponseAnswer::Undecided(_) => Err("the budget is enough".into()),
+        Answer::Misses(_) => Ok(None),
+        Answer::Undecided(_) => Err("the budget is enough".into()),
     }
 }
 
@@ -52,7 +52,7 @@ fn states_of<G: Gate, R: Threads + Wait + Sync>(
     set: TaskSet,
     workers: u32,
     gate: &G,
-) -> Result<StatesResponse, Fail> {
+) -> Result<Answer<Row<Response>, ()>, Fail> {
     if workers < 1 || workers > 16 {
         return Err("the workers are in range".into());
     }
@@ -69,17 +69,17 @@ fn states_of<G: Gate, R: Threads + Wait + Sync>(
 }
 
 // Whether these are the responses, with releases before each finish, or both say no.
-fn are_those(states: &StatesResponse, ticks: &Option<Vec<Ticks>>) -> bool {
+fn are_those(states: &Answer<Row<Response>, ()>, ticks: &Option<Vec<Ticks>>) -> bool {
     match states {
-        StatesResponse::Done(responses) => match ticks {
+        Answer::Meets(responses) => match ticks {
             Some(ticks) => {
                 have_ticks(responses.as_slice(), ticks.as_slice())
                     && end_before_finish(responses.as_slice())
             }
             None => false,
         },
-        StatesResponse::Missed(_) => ticks.is_none(),
-        StatesResponse::Nothing => false,
+        Answer::Misses(_) => ticks.is_none(),
+        Answer::Undecided(()) => false,
     }
 }
 

@@ -8,9 +8,9 @@ use drt_fixtures::texts::{
     ENGINE, HALVES, JUST_DONE, LONGEST, LOWER_FIRST, ONCE_ABOVE, ONCE_ABOVE_LATE, SPLIT, TIGHT,
 };
 use drt_fixtures::{Shape, make_set};
-use drt_model::{Miss, Release, TaskSet};
+use drt_model::{Miss, Release, Row, TaskSet};
 use drt_pool::{Gate, OpenGate};
-use drt_response::{Response, ResponseAnswer, ResponseTrail};
+use drt_response::{Answer, Response, ResponseTrail};
 use std::alloc::Global;
 use std::sync::Wait;
 use std::test::Fail;
@@ -68,7 +68,7 @@ fn is_reached_by<G: Gate, R: Threads + Wait + Sync>(
     let set = set_of(alloc, text)?;
     let answer = answer_of(rt, alloc, set, workers, BUDGET, gate)?;
     Ok(match answer {
-        ResponseAnswer::Done(responses) => has_releases(responses.as_slice(), place, releases),
+        Answer::Meets(responses) => has_releases(responses.as_slice(), place, releases),
         _ => false,
     })
 }
@@ -84,7 +84,7 @@ fn is_missed<R: Threads + Wait + Sync>(
     let set = set_of(alloc, text)?;
     let answer = answer_of(rt, alloc, set, 1, BUDGET, &OpenGate)?;
     Ok(match &answer {
-        ResponseAnswer::Missed(Evidence::FixedNo { releases, miss }) => {
+        Answer::Misses(Evidence::FixedNo { releases, miss }) => {
             releases.as_slice() == expected && *miss == missed
         }
         _ => false,
@@ -97,7 +97,7 @@ fn answer_to<R: Threads + Wait + Sync>(
     alloc: Global,
     shapes: &[Shape<'_>],
     budget: u64,
-) -> Result<ResponseAnswer, Fail> {
+) -> Result<Answer<Row<Response>, ResponseTrail>, Fail> {
     let set = make_set(alloc, shapes)?.ok_or("within the limits")?;
     answer_of(rt, alloc, set, 1, budget, &OpenGate)
 }
@@ -123,7 +123,7 @@ fn is_spent_before<R: Threads + Wait + Sync>(
 ) -> Result<bool, Fail> {
     let answer = answer_to(rt, alloc, shapes, budget)?;
     Ok(match &answer {
-        ResponseAnswer::Undecided(trail) => matches!(trail, ResponseTrail::Fixed(_)),
+        Answer::Undecided(trail) => matches!(trail, ResponseTrail::Fixed(_)),
         _ => false,
     })
 }
@@ -139,7 +139,7 @@ fn is_spent_at<R: Threads + Wait + Sync>(
 ) -> Result<bool, Fail> {
     let answer = answer_to(rt, alloc, shapes, budget)?;
     Ok(match &answer {
-        ResponseAnswer::Undecided(
+        Answer::Undecided(
             ResponseTrail::Search {
                 task,
                 vertex,

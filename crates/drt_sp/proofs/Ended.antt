@@ -1,4 +1,4 @@
--- How an analysis ends, and the trees that it hands over.
+-- The trees that an analysis hands over.
 use Rattle.std.proofs.Common.{ℕ, List, arith}
 use Rattle.drt_model.specs.Contents.{Contents}
 use Rattle.drt_model.specs.Constrained.{AreConstrained}
@@ -6,31 +6,12 @@ use Rattle.drt_model.specs.Limits.{IsTaskSet}
 use Rattle.drt_busy.specs.Decide.{TimesDecide}
 use Rattle.drt_tree.specs.Tree.{IsForest}
 use Rattle.drt_claims.specs.Trees.{greatest_deadline}
-use Rattle.drt_claims.specs.declared.evidence.Evidence.{Evidence}
-use Rattle.drt_claims.specs.declared.evidence.Evidence.TheVariants.{EdfYes, EdfNo, UtilisationOne, FixedYes, FixedStates, FixedNo, Undecided}
-use Rattle.drt_sp.specs.Answers.{IsTreeAnswer, IsEnding, IsRefusalEvidence, IsTreeVerdict}
 use Rattle.drt_sp.specs.Grown.{AreProvedTrees}
 use Rattle.drt_sp.specs.Progress.{AreTreesComplete}
-use Rattle.drt_sp.specs.declared.answer.FixedAnswer.{FixedAnswer}
-use Rattle.drt_sp.specs.declared.answer.FixedAnswer.TheVariants as answers
 use Rattle.drt_sp.specs.declared.progress.Progress.{Progress}
 use Rattle.drt_sp.proofs.ExactTrees.{grown_exact}
 use Rattle.drt_sp.proofs.Passing.{claimed_nodes}
 use Rattle.drt_sp.proofs.Yes.{is_yes}
-
-refusal_verdict : (set : Contents) (evidence : Evidence) → IsRefusalEvidence set evidence → IsTreeVerdict set evidence
-refusal_verdict set (EdfYes ratios fronts) is = absurd is
-refusal_verdict set (EdfNo releases miss) is = absurd is
-refusal_verdict set (UtilisationOne ratios) is = absurd is
-refusal_verdict set (FixedYes trees proofs) is = absurd is
-refusal_verdict set (FixedStates tails searches) is = absurd is
-refusal_verdict set (FixedNo releases miss) is = is
-refusal_verdict set Undecided is = absurd is
-
--- what ends an analysis is an answer of it
-pub ending_answer : (set : Contents) (budget : ℕ) (answer : FixedAnswer) → IsEnding set budget answer → IsTreeAnswer set budget answer
-ending_answer set budget (answers.Done evidence) is = (refusal_verdict set evidence is.0, is.1)
-ending_answer set budget (answers.Undecided trail) is = is
 
 -- the trees of an analysis that proved all vertices
 pub proved_trees : (set : Contents) (order : List ℕ) (p : Progress) → IsTaskSet set.version set.tasks → AreConstrained set.tasks → TimesDecide → IsForest p.forest

@@ -34,8 +34,8 @@ use Rattle.drt_sp.specs.Needs.{AreFewLeaves, IsBelowRefinement, IsBelowSearch}
 use Rattle.drt_sp.specs.Progress.{first_graphs}
 use Rattle.drt_sp.specs.TreeClaims.{IsSpentWalkSearch, IsTreeOf}
 use Rattle.drt_sp.specs.Written.{IsEagerProof}
-use Rattle.drt_sp.specs.declared.answer.FixedAnswer.{FixedAnswer}
-use Rattle.drt_sp.specs.declared.answer.FixedAnswer.TheVariants as answers
+use Rattle.drt_sp.specs.declared.answer.Answer.{Answer}
+use Rattle.drt_sp.specs.declared.answer.Answer.TheVariants as answers
 use Rattle.drt_trails.specs.declared.FixedTrail.{FixedTrail}
 use Rattle.drt_trails.specs.declared.FixedTrail.TheVariants.{Table, Refine}
 
@@ -112,6 +112,20 @@ pub record IsTreeMiss (set : Contents) (releases : List Release) (miss : Miss) :
   pub miss_is : miss ≡ record { task = task; index = 0; deadline = deadline (graph_at set.tasks task) vertex }
   pub of_walks : AreOfWalks set.tasks releases miss
 
+-- The evidence of a yes, and no other.
+abbrev pub IsYesEvidence : Contents → Evidence → Type 0
+IsYesEvidence set (EdfYes ratios fronts) = ⊥
+IsYesEvidence set (EdfNo releases miss) = ⊥
+IsYesEvidence set (UtilisationOne ratios) = ⊥
+IsYesEvidence set (FixedYes trees proofs) = IsExactTreeYes set trees proofs
+IsYesEvidence set (FixedStates tails searches) = ⊥
+IsYesEvidence set (FixedNo releases miss) = ⊥
+IsYesEvidence set Undecided = ⊥
+
+-- The evidence of a yes, in range.
+abbrev pub IsTreeYes : Contents → Evidence → Type 0
+IsTreeYes set evidence = IsYesEvidence set evidence × IsEvidenceInRange evidence
+
 -- The evidence of a no, and no other.
 abbrev pub IsRefusalEvidence : Contents → Evidence → Type 0
 IsRefusalEvidence set (EdfYes ratios fronts) = ⊥
@@ -122,15 +136,9 @@ IsRefusalEvidence set (FixedStates tails searches) = ⊥
 IsRefusalEvidence set (FixedNo releases miss) = IsTreeMiss set releases miss
 IsRefusalEvidence set Undecided = ⊥
 
--- What the evidence of an answer says. The analysis gives no other kind.
-abbrev pub IsTreeVerdict : Contents → Evidence → Type 0
-IsTreeVerdict set (EdfYes ratios fronts) = ⊥
-IsTreeVerdict set (EdfNo releases miss) = ⊥
-IsTreeVerdict set (UtilisationOne ratios) = ⊥
-IsTreeVerdict set (FixedYes trees proofs) = IsExactTreeYes set trees proofs
-IsTreeVerdict set (FixedStates tails searches) = ⊥
-IsTreeVerdict set (FixedNo releases miss) = IsTreeMiss set releases miss
-IsTreeVerdict set Undecided = ⊥
+-- The evidence of a no, in range.
+abbrev pub IsTreeNo : Contents → Evidence → Type 0
+IsTreeNo set evidence = IsRefusalEvidence set evidence × IsEvidenceInRange evidence
 
 -- The search of a task's walks up to the greatest deadline spent the budget, which is below what the search may need. Another task has a
 -- lower priority, and no job of the task or of one of higher priority misses.
@@ -156,12 +164,12 @@ abbrev pub IsTreeUndecided : Contents → ℕ → FixedTrail → Type 0
 IsTreeUndecided set budget (Table task log) = IsSpentTreeTable set.tasks budget task log
 IsTreeUndecided set budget (Refine task vertex log) = IsSpentVertex set budget task vertex log
 
--- What each answer says, with a budget.
-abbrev pub IsTreeAnswer : Contents → ℕ → FixedAnswer → Type 0
-IsTreeAnswer set budget (answers.Done evidence) = IsTreeVerdict set evidence × IsEvidenceInRange evidence
-IsTreeAnswer set budget (answers.Undecided trail) = IsTreeUndecided set budget trail
+-- What an answer says, by what each of its variants says.
+abbrev pub Says : {Y T : Type 0} → (Y → Type 0) → (Evidence → Type 0) → (T → Type 0) → Answer Y T → Type 0
+Says if_meets if_misses if_undecided (answers.Meets shown) = if_meets shown
+Says if_meets if_misses if_undecided (answers.Misses evidence) = if_misses evidence
+Says if_meets if_misses if_undecided (answers.Undecided trail) = if_undecided trail
 
--- An answer before all vertices are proved: it is a no, or a budget was spent.
-abbrev pub IsEnding : Contents → ℕ → FixedAnswer → Type 0
-IsEnding set budget (answers.Done evidence) = IsRefusalEvidence set evidence × IsEvidenceInRange evidence
-IsEnding set budget (answers.Undecided trail) = IsTreeUndecided set budget trail
+-- What each answer says, with a budget.
+abbrev pub IsTreeAnswer : Contents → ℕ → Answer Evidence FixedTrail → Type 0
+IsTreeAnswer set budget answer = Says (IsTreeYes set) (IsTreeNo set) (IsTreeUndecided set budget) answer

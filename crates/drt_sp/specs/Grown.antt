@@ -7,16 +7,14 @@ use Rattle.drt_model.specs.Schedulable.{Schedulable}
 use Rattle.drt_tree.specs.Tree.{IsForest}
 use Rattle.drt_refine.specs.Below.{AreNodes}
 use Rattle.drt_choices.specs.Choices.{AreTrees, FirstPass, IsOrder}
-use Rattle.drt_claims.specs.Ranges.{IsEvidenceInRange}
 use Rattle.drt_claims.specs.Trees.{greatest_deadline}
-use Rattle.drt_sp.specs.Answers.{AreExactTrees, IsEnding, IsRefusalEvidence, IsTreeUndecided}
+use Rattle.drt_sp.specs.Answers.{AreExactTrees, IsTreeNo, IsTreeUndecided, Says}
 use Rattle.drt_sp.specs.Needs.{AreFewLeaves}
 use Rattle.drt_sp.specs.Progress.{AreTreesComplete}
-use Rattle.drt_sp.specs.declared.grown.Outcome.{Outcome}
-use Rattle.drt_sp.specs.declared.grown.Outcome.TheVariants as outcomes
+use Rattle.drt_sp.specs.declared.answer.Answer.{Answer}
 use Rattle.drt_sp.specs.declared.grown.ProvedTrees.{ProvedTrees}
-use Rattle.drt_sp.specs.declared.grown.TreesAnswer.{TreesAnswer}
-use Rattle.drt_sp.specs.declared.grown.TreesAnswer.TheVariants.{Proved, Missed, Undecided}
+use Rattle.drt_sp.specs.declared.progress.Progress.{Progress}
+use Rattle.drt_trails.specs.declared.FixedTrail.{FixedTrail}
 
 -- The set is schedulable, and each of its vertices passes. The trees are those of all tasks but that of lowest priority, and stand for the
 -- walks of these tasks up to the greatest deadline, in order of priority, with no more leaves than there are walks.
@@ -34,12 +32,13 @@ pub record AreProvedTrees (set : Contents) (trees : ProvedTrees) : Type 0 where
   pub exact : AreExactTrees set.tasks trees.order trees.forest trees.roots
 
 -- What each answer says, with a budget.
-abbrev pub IsTreesAnswer : Contents → ℕ → TreesAnswer → Type 0
-IsTreesAnswer set budget (Proved trees) = AreProvedTrees set trees
-IsTreesAnswer set budget (Missed evidence) = IsRefusalEvidence set evidence × IsEvidenceInRange evidence
-IsTreesAnswer set budget (Undecided trail) = IsTreeUndecided set budget trail
+abbrev pub IsTreesAnswer : Contents → ℕ → Answer ProvedTrees FixedTrail → Type 0
+IsTreesAnswer set budget answer = Says (AreProvedTrees set) (IsTreeNo set) (IsTreeUndecided set budget) answer
+
+-- All vertices of a set are proved in this order.
+abbrev pub IsComplete : Contents → List ℕ → Progress → Type 0
+IsComplete set order p = AreTreesComplete set.tasks order p.forest p.roots.items p.trees.items p.proofs.items
 
 -- How an analysis in this order ends.
-abbrev pub IsOutcome : Contents → List ℕ → ℕ → Outcome → Type 0
-IsOutcome set order budget (outcomes.Proved p) = AreTreesComplete set.tasks order p.forest p.roots.items p.trees.items p.proofs.items
-IsOutcome set order budget (outcomes.Ended answer) = IsEnding set budget answer
+abbrev pub IsOutcome : Contents → List ℕ → ℕ → Answer Progress FixedTrail → Type 0
+IsOutcome set order budget answer = Says (IsComplete set order) (IsTreeNo set) (IsTreeUndecided set budget) answer

@@ -5,15 +5,17 @@ ghost use Rattle.drt_sp.specs.Answers.{IsTreeAnswer};
 ghost use Rattle.drt_sp.specs.Grown.{IsOutcome, IsTreesAnswer};
 
 use crate::ahead::{EndsAhead, search_ahead};
-use crate::answer::FixedAnswer;
-use crate::grown::{Outcome, ProvedTrees, TreesAnswer};
+use crate::answer::Answer;
+use crate::grown::ProvedTrees;
 use crate::order::priority_order;
 use crate::progress::{Given, Progress};
 use drt_accepted::Accepted;
 use drt_check_trees::greatest_deadline;
+use drt_claims::Evidence;
 use drt_crew::Crew;
 use drt_model::Memory;
 use drt_pool::Gate;
+use drt_trails::FixedTrail;
 use std::sync::Wait;
 use std::thread::Threads;
 
@@ -30,17 +32,18 @@ use std::thread::Threads;
 pub fn analyse_fixed<G: Gate, R: Threads + Wait + Sync>(
     crew: &Crew<'_, G, R>,
     set: &Accepted<'_>,
-) -> Result<FixedAnswer, Memory>
+) -> Result<Answer<Evidence, FixedTrail>, Memory>
     ensures { IfOk result (IsTreeAnswer set.now crew.now.effort.budget) }
 {
     let ranked = priority_order(crew.alloc, set.set())?;
     let order = ranked.as_slice();
     match analyse(crew, &Given { set: &*set, order })? {
-        Outcome::Ended(answer) => Ok(answer),
-        Outcome::Proved(progress) => {
+        Answer::Meets(progress) => {
             let evidence = progress.evidence(crew.alloc, set)?;
-            Ok(FixedAnswer::Done(evidence))
+            Ok(Answer::Meets(evidence))
         }
+        Answer::Misses(evidence) => Ok(Answer::Misses(evidence)),
+        Answer::Undecided(trail) => Ok(Answer::Undecided(trail)),
     }
 }
 
@@ -48,17 +51,15 @@ pub fn analyse_fixed<G: Gate, R: Threads + Wait + Sync>(
 pub fn analyse_trees<G: Gate, R: Threads + Wait + Sync>(
     crew: &Crew<'_, G, R>,
     set: &Accepted<'_>,
-) -> Result<TreesAnswer, Memory>
+) -> Result<Answer<ProvedTrees, FixedTrail>, Memory>
     ensures { IfOk result (IsTreesAnswer set.now crew.now.effort.budget) }
 {
     let ranked = priority_order(crew.alloc, set.set())?;
     let order = ranked.as_slice();
     match analyse(crew, &Given { set: &*set, order })? {
-        Outcome::Ended(FixedAnswer::Done(evidence)) => Ok(TreesAnswer::Missed(evidence)),
-        Outcome::Ended(FixedAnswer::Undecided(trail)) => Ok(TreesAnswer::Undecided(trail)),
-        Outcome::Proved(progress) => Ok(TreesAnswer::Proved(ProvedTrees::of(
-            set, ranked, progress,
-        ))),
+        Answer::Meets(progress) => Ok(Answer::Meets(ProvedTrees::of(set, ranked, progress))),
+        Answer::Misses(evidence) => Ok(Answer::Misses(evidence)),
+        Answer::Undecided(trail) => Ok(Answer::Undecided(trail)),
     }
 }
 
@@ -66,7 +67,7 @@ pub fn analyse_trees<G: Gate, R: Threads + Wait + Sync>(
 fn analyse<G: Gate, R: Threads + Wait + Sync>(
     crew: &Crew<'_, G, R>,
     given: &Given<'_>,
-) -> Result<Outcome, Memory>
+) -> Result<Answer<Progress, FixedTrail>, Memory>
     requires { IsOrder given.now.set.now.tasks given.now.order.now }
     ensures { IfOk result (IsOutcome given.now.set.now given.now.order.now crew.now.effort.budget) }
 {
@@ -76,17 +77,20 @@ fn analyse<G: Gate, R: Threads + Wait + Sync>(
     let bound = u64::from(greatest_deadline(given.set.set()));
     let mut ahead = EndsAhead::nothing(crew.alloc);
     'places: for place in 0..last {
-        if let Some(answer) = progress.prove_task(crew, given, place)? {
-            return Ok(Outcome::Ended(answer));
+        match progress.prove_task(crew, given, place)? {
+            Answer::Meets(()) => {}
+            Answer::Misses(evidence) => return Ok(Answer::Misses(evidence)),
+            Answer::Undecided(trail) => return Ok(Answer::Undecided(trail)),
         }
         ahead = search_ahead(crew, given, place, bound, ahead)?;
         let found = ahead.take(place);
-        if let Some(answer) = progress.add_tree(crew, given, place, found)? {
-            return Ok(Outcome::Ended(answer));
+        if let Some(trail) = progress.add_tree(crew, given, place, found)? {
+            return Ok(Answer::Undecided(trail));
         }
     }
     match progress.prove_task(crew, given, last)? {
-        Some(answer) => Ok(Outcome::Ended(answer)),
-        None => Ok(Outcome::Proved(progress)),
+        Answer::Meets(()) => Ok(Answer::Meets(progress)),
+        Answer::Misses(evidence) => Ok(Answer::Misses(evidence)),
+        Answer::Undecided(trail) => Ok(Answer::Undecided(trail)),
     }
 }

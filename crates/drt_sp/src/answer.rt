@@ -1,12 +1,13 @@
-//! The answers of the analysis.
+//! The answers of an analysis.
 use drt_claims::Evidence;
-use drt_trails::FixedTrail;
 
-/// What the analysis of a set under fixed priorities found.
+/// What is found of a set under fixed priorities.
 #[derive(Drop)]
-pub enum FixedAnswer {
-    /// The set is schedulable, or isn't, with the evidence.
-    Done(Evidence),
-    /// A budget was spent before there was an answer.
-    Undecided(FixedTrail),
+pub enum Answer<Y, T> {
+    /// Each job meets its deadline, as this shows.
+    Meets(Y),
+    /// A job misses its deadline, with the evidence.
+    Misses(Evidence),
+    /// A budget is spent before there is an answer, as this trail shows.
+    Undecided(T),
 }

@@ -29,10 +29,10 @@ mod vertices;
 mod walks;
 
 pub use analysis::{analyse_fixed, analyse_trees};
-pub use answer::FixedAnswer;
+pub use answer::Answer;
 pub use drt_check_trees::greatest_deadline;
 pub use drt_trails::FixedTrail;
-pub use grown::{ProvedTrees, TreesAnswer};
+pub use grown::ProvedTrees;
 pub use laws::{budgets_suffice, searches_go_on};
 pub use order::priority_order;
 pub use releases::leaf_releases;

@@ -5,11 +5,11 @@ ghost use Rattle.drt_choices.specs.Choices.{IsOrder};
 ghost use Rattle.drt_claims.specs.Claims.{graphs_of};
 ghost use Rattle.drt_claims.specs.Ranges.{IsEvidenceInRange};
 ghost use Rattle.drt_claims.specs.Trees.{greatest_deadline};
-ghost use Rattle.drt_sp.specs.Answers.{IsEnding, IsTreeVerdict};
+ghost use Rattle.drt_sp.specs.Answers.{IsYesEvidence, IsTreeNo, IsTreeUndecided, Says};
 ghost use Rattle.drt_sp.specs.Progress.{AreTreesGrown, AreProved, AreTreesComplete};
 ghost use Rattle.drt_sp.specs.Searches.{IsEndAt};
 
-use crate::answer::FixedAnswer;
+use crate::answer::Answer;
 use crate::refusal::refusal;
 use crate::trees::{SearchEnd, TreeSearch, plant_tree};
 use crate::vertices::{TaskProofs, prove_vertices};
@@ -66,13 +66,13 @@ impl Progress {
         })
     }
 
-    /// Proves the vertices of the task at this place of the order, in file order. An answer ends the analysis.
+    /// Proves the vertices of the task at this place of the order, in file order. Each answer but that they pass ends the analysis.
     pub(crate) fn prove_task<G: Gate, R: Threads + Wait + Sync>(
         &mut self,
         crew: &Crew<'_, G, R>,
         given: &Given<'_>,
         place: usize,
-    ) -> Result<Option<FixedAnswer>, Memory>
+    ) -> Result<Answer<(), FixedTrail>, Memory>
         requires order { IsOrder given.now.set.now.tasks given.now.order.now }
         requires here { place < length given.now.order.now }
         requires grown { AreTreesGrown given.now.set.now.tasks given.now.order.now place self.old.forest self.old.roots.items self.old.trees.items }
@@ -80,7 +80,10 @@ impl Progress {
         ensures forest { self.new.forest ≡ self.old.forest }
         ensures roots { self.new.roots ≡ self.old.roots }
         ensures trees { self.new.trees ≡ self.old.trees }
-        ensures decided { IfOk result (λ answer. MatchOption answer (AreProved given.now.set.now.tasks given.now.order.now (place + 1) self.new.trees.items self.new.proofs.items) (IsEnding given.now.set.now crew.now.effort.budget)) }
+        ensures decided { IfOk result (Says
+            (λ done. AreProved given.now.set.now.tasks given.now.order.now (place + 1) self.new.trees.items self.new.proofs.items)
+            (IsTreeNo given.now.set.now)
+            (IsTreeUndecided given.now.set.now crew.now.effort.budget)) }
     {
         leaves_pass();
         over_every_refinement();
@@ -94,7 +97,7 @@ impl Progress {
         match prove_vertices(crew, &self.forest, self.roots.as_slice(), task, graph)? {
             TaskProofs::Passed(proofs) => {
                 self.proofs[task as usize] = proofs;
-                Ok(None)
+                Ok(Answer::Meets(()))
             }
             TaskProofs::Failed { vertex, tuple } => {
                 let failed = VertexTuple {
@@ -103,31 +106,33 @@ impl Progress {
                     tuple,
                 };
                 let evidence = refusal(crew.alloc, given, &self.forest, &failed)?;
-                Ok(Some(FixedAnswer::Done(evidence)))
+                Ok(Answer::Misses(evidence))
             }
             TaskProofs::Spent { vertex, log } => {
                 let trail = FixedTrail::Refine { task, vertex, log };
-                Ok(Some(FixedAnswer::Undecided(trail)))
+                Ok(Answer::Undecided(trail))
             }
         }
     }
 
     /// Searches the walks of the task at this place of the order, which isn't the last one, where the end of that search wasn't found
-    /// before, and adds their tree. An answer ends the analysis.
+    /// before, and adds their tree. A trail ends the analysis.
     pub(crate) fn add_tree<G: Gate, R: Threads + Wait + Sync>(
         &mut self,
         crew: &Crew<'_, G, R>,
         given: &Given<'_>,
         place: usize,
         found: Option<SearchEnd>,
-    ) -> Result<Option<FixedAnswer>, Memory>
+    ) -> Result<Option<FixedTrail>, Memory>
         requires order { IsOrder given.now.set.now.tasks given.now.order.now }
         requires here { place + 1 < length given.now.order.now }
         requires found { IfSome found (IsEndAt (graphs_of given.now.set.now.tasks) given.now.order.now (greatest_deadline given.now.set.now.tasks) crew.now.effort.budget place) }
         requires grown { AreTreesGrown given.now.set.now.tasks given.now.order.now place self.old.forest self.old.roots.items self.old.trees.items }
         requires proved { AreProved given.now.set.now.tasks given.now.order.now (place + 1) self.old.trees.items self.old.proofs.items }
-        ensures grown { IfOk result (λ answer. MatchOption answer (AreTreesGrown given.now.set.now.tasks given.now.order.now (place + 1) self.new.forest self.new.roots.items self.new.trees.items) (IsEnding given.now.set.now crew.now.effort.budget)) }
-        ensures proved { IfOk result (λ answer. AreProved given.now.set.now.tasks given.now.order.now (place + 1) self.new.trees.items self.new.proofs.items) }
+        ensures grown { IfOk result (λ trail. MatchOption trail
+            (AreTreesGrown given.now.set.now.tasks given.now.order.now (place + 1) self.new.forest self.new.roots.items self.new.trees.items)
+            (IsTreeUndecided given.now.set.now crew.now.effort.budget)) }
+        ensures proved { IfOk result (λ trail. AreProved given.now.set.now.tasks given.now.order.now (place + 1) self.new.trees.items self.new.proofs.items) }
     {
         over_every_search::<RequestLabel>();
         times_suffice_for_task();
@@ -145,17 +150,14 @@ impl Progress {
                 self.trees.push(tree.claim)?;
                 Ok(None)
             }
-            TreeSearch::Spent(log) => {
-                let trail = FixedTrail::Table { task, log };
-                Ok(Some(FixedAnswer::Undecided(trail)))
-            }
+            TreeSearch::Spent(log) => { Ok(Some(FixedTrail::Table { task, log })) }
         }
     }
 
     /// The evidence of a yes, with the proofs in file order.
     pub(crate) fn evidence(self, alloc: Global, set: &Accepted<'_>) -> Result<Evidence, Memory>
         requires { (order : List ℕ) × AreTreesComplete set.now.tasks order self.forest self.roots.items self.trees.items self.proofs.items }
-        ensures verdict { IfOk result (IsTreeVerdict set.now) }
+        ensures verdict { IfOk result (IsYesEvidence set.now) }
         ensures range { IfOk result IsEvidenceInRange }
     {
         times_decide();

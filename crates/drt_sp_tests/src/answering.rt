@@ -1,16 +1,17 @@
 //! Answers by a crew, as bytes.
 ghost use Rattle.std.specs.Prelude.{ℕ, IfOk};
+ghost use Rattle.drt_claims.specs.Ranges.{IsEvidenceInRange};
 ghost use Rattle.drt_sp.specs.Answers.{IsTreeAnswer};
 
 use drt_accepted::Accepted;
-use drt_claims::Dossier;
+use drt_claims::{Dossier, Evidence};
 use drt_crew::Crew;
 use drt_drawn::{Draws, drawn_set};
 use drt_effort::{Effort, MOST_BUDGET, MOST_WORKERS};
 use drt_evidence::print;
 use drt_model::{Policy, TaskSet};
 use drt_pool::Gate;
-use drt_sp::{FixedAnswer, FixedTrail, analyse_fixed};
+use drt_sp::{Answer, FixedTrail, analyse_fixed};
 use std::alloc::Global;
 use std::sync::Wait;
 use std::test::Fail;
@@ -68,7 +69,7 @@ pub(crate) fn effort_of(workers: u32, budget: u64) -> Result<Effort, Fail> {
 pub(crate) fn answer_to<G: Gate, R: Threads + Wait + Sync>(
     crew: &Crew<'_, G, R>,
     set: &TaskSet,
-) -> Result<FixedAnswer, Fail>
+) -> Result<Answer<Evidence, FixedTrail>, Fail>
     ensures { IfOk result (IsTreeAnswer set.now crew.now.effort.budget) }
 {
     let graphs = drt_graph::check(crew.alloc, set)?;
@@ -80,20 +81,30 @@ fn print_whole(alloc: Global, dossier: &Dossier) -> Result<Vec<u8>, Fail> {
 }
 
 // The text of an answer: its dossier, or where and by which steps a budget was spent.
-fn text_of(alloc: Global, set: TaskSet, answer: FixedAnswer) -> Result<Vec<u8>, Fail>
+fn text_of(
+    alloc: Global,
+    set: TaskSet,
+    answer: Answer<Evidence, FixedTrail>,
+) -> Result<Vec<u8>, Fail>
     requires { (budget : ℕ) × IsTreeAnswer set budget answer }
 {
     match answer {
-        FixedAnswer::Done(evidence) => {
-            let dossier = Dossier {
-                policy: Policy::Fixed,
-                set,
-                evidence,
-            };
-            print_whole(alloc, &dossier)
-        }
-        FixedAnswer::Undecided(trail) => spent_text(alloc, &trail),
+        Answer::Meets(evidence) => print_decided(alloc, set, evidence),
+        Answer::Misses(evidence) => print_decided(alloc, set, evidence),
+        Answer::Undecided(trail) => spent_text(alloc, &trail),
     }
+}
+
+// The dossier of a set with this evidence.
+fn print_decided(alloc: Global, set: TaskSet, evidence: Evidence) -> Result<Vec<u8>, Fail>
+    requires { IsEvidenceInRange evidence }
+{
+    let dossier = Dossier {
+        policy: Policy::Fixed,
+        set,
+        evidence,
+    };
+    print_whole(alloc, &dossier)
 }
 
 fn spent_text(alloc: Global, trail: &FixedTrail) -> Result<Vec<u8>, Fail> {
@@ -133,13 +144,13 @@ pub(crate) fn has_dossier<G: Gate, R: Threads + Wait + Sync>(
 }
 
 // The task, the vertex if there is one, and the number of steps at which a budget was spent.
-fn spent_at(answer: &FixedAnswer) -> Option<(u32, Option<u32>, usize)> {
+fn spent_at(answer: &Answer<Evidence, FixedTrail>) -> Option<(u32, Option<u32>, usize)> {
     match answer {
-        FixedAnswer::Done(_) => None,
-        FixedAnswer::Undecided(FixedTrail::Table { task, log }) => {
+        Answer::Meets(_) | Answer::Misses(_) => None,
+        Answer::Undecided(FixedTrail::Table { task, log }) => {
             Some((*task, None, log.as_slice().len()))
         }
-        FixedAnswer::Undecided(FixedTrail::Refine { task, vertex, log }) => {
+        Answer::Undecided(FixedTrail::Refine { task, vertex, log }) => {
             Some((*task, Some(*vertex), log.as_slice().len()))
         }
     }

@@ -4,7 +4,7 @@ use drt_claims::Evidence;
 use drt_crew::Crew;
 use drt_fixtures::{Shape, make_set};
 use drt_pool::OpenGate;
-use drt_sp::FixedAnswer;
+use drt_sp::{Answer, FixedTrail};
 use std::alloc::Global;
 use std::sync::Wait;
 use std::test::Fail;
@@ -13,11 +13,11 @@ use std::thread::Threads;
 const BUDGET: u64 = 1_000_000;
 
 // Whether the answer is a yes, where it is a yes or a no.
-fn verdict(answer: &FixedAnswer) -> Option<bool> {
+fn verdict(answer: &Answer<Evidence, FixedTrail>) -> Option<bool> {
     match answer {
-        FixedAnswer::Done(Evidence::FixedYes { .. }) => Some(true),
-        FixedAnswer::Done(Evidence::FixedNo { .. }) => Some(false),
-        _ => None,
+        Answer::Meets(_) => Some(true),
+        Answer::Misses(_) => Some(false),
+        Answer::Undecided(_) => None,
     }
 }
 

@@ -29,8 +29,8 @@ prove_task-requires-2-clause-proved g c κs within =
     let e : c.places.place ≡ length order - 1 = omega (arith, c.places-test.false, c.places.auto.place-end) in
     subst (λ (n : ℕ). AreProved c.args.given.now.set.now.tasks order n c.places.progress.trees.items c.places.progress.proofs.items) e c.places.invariant.proved
 
-pub returns-in-None : goal.returns-in-None
-returns-in-None g c =
+pub returns-in-Meets-2 : goal.returns-in-Meets-2
+returns-in-Meets-2 g c =
     let tasks : List Task = c.args.given.now.set.now.tasks in
     let order : List ℕ = c.args.given.now.order.now in
     let is : IsOrder tasks order = c.requires in
@@ -38,11 +38,11 @@ returns-in-None g c =
     let whole : (length order - 1) + 1 ≡ length order = omega (arith, order_count tasks order is, c.keep_limits.ensures.limits.has_task) in
     let grown : AreTreesGrown tasks order (length order - 1) c.places.progress.forest c.places.progress.roots.items c.places.progress.trees.items
     = subst (λ (n : ℕ). AreTreesGrown tasks order n c.places.progress.forest c.places.progress.roots.items c.places.progress.trees.items) e c.places.invariant.grown in
-    let proved : AreProved tasks order ((length order - 1) + 1) c.prove_task-2.new.self.trees.items c.prove_task-2.new.self.proofs.items = rw c.in-None.is at c.in_ok-answer-3.ensures.decided in
+    let proved : AreProved tasks order ((length order - 1) + 1) c.prove_task-2.new.self.trees.items c.prove_task-2.new.self.proofs.items = rw c.in-Meets-2.is at c.in_ok-prove_task-2.ensures.decided in
     record {
       order_is = is;
       last = length order - 1;
       whole = whole;
-      grown = rw (c.in_ok-answer-3.ensures.forest, c.in_ok-answer-3.ensures.roots, c.in_ok-answer-3.ensures.trees) grown;
+      grown = rw (c.in_ok-prove_task-2.ensures.forest, c.in_ok-prove_task-2.ensures.roots, c.in_ok-prove_task-2.ensures.trees) grown;
       proved = subst (λ (n : ℕ). AreProved tasks order n c.prove_task-2.new.self.trees.items c.prove_task-2.new.self.proofs.items) whole proved;
     }

@@ -1,8 +1,8 @@
-use Rattle.drt_sp.specs.Answers.{IsTreeAnswer}
-use Rattle.drt_sp.specs.declared.answer.FixedAnswer.TheVariants.{Done}
+use Rattle.drt_sp.specs.Answers.{IsTreeNo, IsTreeYes}
 use Rattle.drt_sp_tests.proofs.answering.text_of.Goals as goal
 
-pub invariant_of-dossier : goal.invariant_of-dossier
-invariant_of-dossier c =
-    let answer : IsTreeAnswer c.args.set c.requires.0 (Done c.in-Done.evidence) = rw c.in-Done.is at c.requires.1 in
-    answer.1
+pub print_decided-requires : goal.print_decided-requires
+print_decided-requires c = let said : IsTreeYes c.args.set c.in-Meets.evidence = rw c.in-Meets.is at c.requires.1 in said.1
+
+pub print_decided-requires-2 : goal.print_decided-requires-2
+print_decided-requires-2 c = let said : IsTreeNo c.args.set c.in-Misses.evidence = rw c.in-Misses.is at c.requires.1 in said.1
