@@ -1,5 +1,6 @@
 mod GreatestDeadline
 mod Orders
+pub mod Ranked
 mod Eachs
 mod Naming
 mod Shorts

@@ -21,7 +21,8 @@ use Rattle.drt_busy.specs.Choice.{graph_at, requests, task_at}
 use Rattle.drt_busy.specs.Decide.{RequestsMiss, TimesSufficeForTask}
 use Rattle.drt_busy.specs.WalkReleases.{release_at, with_job}
 use Rattle.drt_busy.proofs.EdfWalks.{deadline_here}
-use Rattle.drt_choices.specs.Choices.{FirstPass, IsOrder, chosen}
+use Rattle.drt_choices.specs.Choices.{FirstPass, chosen}
+use Rattle.drt_check_trees.specs.Order.{IsOrder}
 use Rattle.drt_choices.specs.Laws.{LeavesMiss}
 use Rattle.drt_choices.proofs.Asked.{requests_asked}
 use Rattle.drt_choices.proofs.Chosen.{below_length, chosen_asked, chosen_walks}

@@ -10,11 +10,6 @@ use Rattle.drt_busy.specs.Response.{cut}
 use Rattle.drt_steps.specs.Values.{value_at}
 use Rattle.drt_tree.specs.Tree.{Plain, IsUnder, node_values_in, walk}
 
--- The numbers of the tasks in order of priority, the highest (the least number) first.
-pub record IsOrder (tasks : List Task) (order : List ℕ) : Type 0 where
-  pub permutation : IsPermutation (range_with_len 0 (length tasks)) order
-  pub rising : AllPairs (λ j k. (task_at tasks j).priority < (task_at tasks k).priority) order
-
 -- The tree stands for the walks of the graph up to the bound: each walk asks at no time for more than some leaf, and each leaf has
 -- a walk of the graph, and asks for what that walk does.
 pub record StandsFor (g : Digraph) (bound : ℕ) (f : Plain) (root : ℕ) : Type 0 where

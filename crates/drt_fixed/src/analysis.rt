@@ -16,12 +16,9 @@ use drt_effort::Effort;
 use drt_model::{Memory, Policy, TaskSet};
 use drt_pool::Gate;
 use drt_priorities::copy_of;
-use drt_sp::{Answer, FixedTrail};
+use drt_sp::{ALLOWANCE, Answer, FixedTrail};
 use std::sync::Wait;
 use std::thread::Threads;
-
-/// How many steps each table and each frontier has before tails and states are tried.
-pub const ALLOWANCE: u64 = 4_096;
 
 /// What the analysis of a set under fixed priorities found: its evidence, and the trail of a spent budget where nothing is decided.
 #[derive(Drop)]

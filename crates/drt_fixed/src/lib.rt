@@ -14,4 +14,6 @@ mod searching;
 mod tails;
 mod vertices;
 
-pub use analysis::{ALLOWANCE, Analysed, analyse_fixed, decide_by_states, first_effort};
+pub use analysis::{Analysed, analyse_fixed, decide_by_states, first_effort};
+pub use drt_sp::ALLOWANCE;
+pub use looking::{ENOUGH_STATES, MOST_AHEAD};

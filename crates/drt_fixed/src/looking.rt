@@ -16,10 +16,11 @@ use std::alloc::Global;
 use std::sync::Wait;
 use std::thread::Threads;
 
-// After how many states it is worth it to begin threads.
-const ENOUGH: u64 = 500;
-// How many states a search ahead takes at most, for it may be made for nothing. What takes more is searched by all workers together.
-const MOST_AHEAD: u64 = 16_384;
+/// How many states it is worth threads to share.
+pub const ENOUGH_STATES: u64 = 500;
+
+/// How many states a search ahead takes at most, for it may be made for nothing. What takes more is searched by all workers together.
+pub const MOST_AHEAD: u64 = 16_384;
 
 /// What is found of the vertices that are left, once the states that the others took tell that it is worth it to look.
 #[derive(Drop)]
@@ -123,7 +124,7 @@ fn look_from<G: Gate, R: Threads + Wait + Sync>(
     requires ahead { AreFoundFrom given vertices.now ahead.old.first ahead.old.found.items }
     ensures { IfOk result (λ none. AreFoundFrom given.entry vertices.now ahead.new.first ahead.new.found.items) }
 {
-    if ahead.is_looked || ahead.states < crew.gate.alone().min(ENOUGH) {
+    if ahead.is_looked || ahead.states < crew.gate.alone().min(ENOUGH_STATES) {
         return Ok(());
     }
     let found = search_ahead(crew, given, &vertices[number..])?;

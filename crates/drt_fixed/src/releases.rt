@@ -12,11 +12,8 @@ ghost use Rattle.drt_fixed.specs.Searching.{AreHigher, IsBeside, IsSearchGiven, 
 use crate::vertices::{Given, PlacedVertex};
 use drt_claims::Evidence;
 use drt_model::{Memory, Miss, Row};
-use drt_releases::{all_releases, cut_walk};
+use drt_releases::{LAST_DEADLINE, all_releases, cut_walk};
 use std::alloc::Global;
-
-// Each walk's offsets are below the vertex's deadline, and its last job's deadline is at most as much later. Both are at most 1,000,000 ticks.
-const LAST_DEADLINE: u64 = 2_000_000;
 
 /// The no of a vertex: the releases of walks of tasks of higher priority, the walk at each place that of the task there, as far as they
 /// come before the deadline, and one of the vertex at 0, in order of tasks; and the miss of its job.

@@ -6,8 +6,9 @@ ghost use Rattle.drt_check_states.specs.Places.{AreTasks};
 
 use drt_ahead::{largest_first, look_ahead, shared_size, take_found};
 use drt_crew::Crew;
+use drt_effort::MOST_BUDGET;
 use drt_graph::{Graph, Graphs};
-use drt_model::Memory;
+use drt_model::{MOST_TIME, Memory};
 use drt_pool::Gate;
 use drt_states::TailClaim;
 use drt_tails::find_tail;
@@ -16,9 +17,7 @@ use std::sync::Wait;
 use std::thread::Threads;
 
 // How many steps a tail may take.
-const MOST_STEPS: u64 = 1_000_000;
-// The greatest deadline of a task set, in ticks.
-const MOST_DEADLINE: u32 = 1_000_000;
+const MOST_STEPS: u64 = MOST_BUDGET as u64;
 // The size of tails that it is worth threads to share.
 const ENOUGH: u64 = 4_096;
 
@@ -133,7 +132,7 @@ fn tail_at(
     ensures { IfOk result (λ r. IfSome r HasRisingCurves) }
 {
     let bound = bounds.get(place).copied().unwrap_or(0);
-    if bound == 0 || bound > MOST_DEADLINE {
+    if bound == 0 || bound > MOST_TIME {
         return Ok(None);
     }
     let graph = graphs.graph(order[place]);

@@ -9,7 +9,7 @@ ghost use Rattle.drt_fixed.specs.Searching.{IsFoundVertex, IsSearchGiven, IsVert
 use drt_accepted::Accepted;
 use drt_crew::Crew;
 use drt_graph::Graph;
-use drt_model::{Memory, Row};
+use drt_model::{MOST_TIME, Memory, Row};
 use drt_pool::Gate;
 use drt_sp_states::{Searched, Subject, search_states};
 use drt_states::{Jump, TailClaim};
@@ -19,9 +19,6 @@ use std::thread::Threads;
 
 // The most tasks of higher priority.
 const MOST_HIGHER: usize = 31;
-// The greatest execution time and the greatest deadline, in ticks.
-const MOST_TICKS: u32 = 1_000_000;
-
 /// What the searches of all vertices are over: the set, the tasks in order of priority, and the tails of all but the last one with their
 /// greatest values.
 #[derive(Clone, Copy)]
@@ -123,7 +120,7 @@ fn subject_of<'a>(given: Given<'a>, vertex: PlacedVertex) -> Option<Subject<'a>>
     if place > given.tails.len() || place > given.crests.len() || place > MOST_HIGHER {
         return None;
     }
-    if wcet > MOST_TICKS || at.deadline == 0 || at.deadline > MOST_TICKS {
+    if wcet > MOST_TIME || at.deadline == 0 || at.deadline > MOST_TIME {
         return None;
     }
     let graphs = given.set.graphs();

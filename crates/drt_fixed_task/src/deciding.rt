@@ -7,12 +7,10 @@ use drt_accepted::Accepted;
 use drt_crew::Crew;
 use drt_model::Memory;
 use drt_pool::Gate;
+use drt_sp::ALLOWANCE;
 use drt_sp_task::{TaskAnswer, analyse_task};
 use std::sync::Wait;
 use std::thread::Threads;
-
-// A budget of at most so many steps is one for trees alone.
-const ALLOWANCE: u64 = 4_096;
 
 /// Decides whether a task of a set with constrained deadlines meets its deadlines under its priority, whatever the tasks of lower priority
 /// do.

@@ -12,12 +12,9 @@ use crate::higher::is_higher;
 use crate::subjects::Given;
 use drt_busy::requests_miss;
 use drt_model::{Memory, Miss, Row};
-use drt_releases::{all_releases, cut_walk, walk_of};
+use drt_releases::{LAST_DEADLINE, all_releases, cut_walk, walk_of};
 use drt_sp_task::TaskAnswer;
 use std::alloc::Global;
-
-// Each walk's offsets are below the vertex's deadline, and its last job's deadline is at most as much later. Both are at most 1,000,000 ticks.
-const LAST_DEADLINE: u64 = 2_000_000;
 
 // A vertex of the task, by its number; the walks of the tasks of higher priority beside it, in order of the file; and the ticks at which they
 // are cut.

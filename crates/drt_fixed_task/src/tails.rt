@@ -6,6 +6,7 @@ ghost use Rattle.drt_model.specs.Walk.{deadline};
 ghost use Rattle.drt_check_states.specs.Places.{AreTasks, graphs_at};
 ghost use Rattle.drt_fixed_task.specs.Tails.{AreTails};
 
+use drt_effort::MOST_BUDGET;
 use drt_graph::{Graph, Graphs};
 use drt_model::Memory;
 use drt_states::TailClaim;
@@ -13,7 +14,7 @@ use drt_tails::find_tail;
 use std::alloc::Global;
 
 // How many steps a tail may take.
-const MOST_STEPS: u64 = 1_000_000;
+const MOST_STEPS: u64 = MOST_BUDGET as u64;
 
 /// The tails of these tasks up to the bound, in ticks, in the same order. None where one takes too many steps.
 pub(crate) fn find_tails(

@@ -4,10 +4,8 @@ ghost use Rattle.drt_model.specs.Digraph.{Digraph, vertex_count, out_degree, edg
 ghost use Rattle.drt_ratio.specs.Levels.{height, level_of, IsRaised, IsRelaxed, Rises, IsLevelBelow, IsWholeRound, IsTower};
 
 use drt_graph::Graph;
-use drt_model::Memory;
+use drt_model::{MOST_VERTICES, Memory};
 use std::alloc::Global;
-
-const MOST_VERTICES: usize = 96;
 
 /// The greatest gain of a walk to each vertex, and the vertex before its last.
 #[derive(Drop, Clone, Copy)]

@@ -10,4 +10,4 @@ mod releases;
 
 pub use cutting::cut_walk;
 pub use laws::releases_are_in_range;
-pub use releases::{all_releases, walk_of};
+pub use releases::{LAST_DEADLINE, all_releases, walk_of};

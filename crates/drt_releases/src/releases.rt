@@ -12,6 +12,10 @@ use drt_graph::{Graph, Graphs};
 use drt_model::{Memory, Release, Row};
 use std::alloc::Global;
 
+/// By when all jobs of walks are due that are cut within a deadline, in ticks: their offsets are below it, and each job's deadline is at
+/// most as much later; both are at most 1,000,000 ticks.
+pub const LAST_DEADLINE: u64 = 2_000_000;
+
 /// The releases of walks, one for each task, that are due by `t`, in order of tasks. `t` is in ticks.
 pub fn all_releases(
     alloc: Global,

@@ -8,6 +8,7 @@ use crate::by_states::respond_vertex;
 use crate::subjects::{Given, VertexAt};
 use drt_ahead::{largest_first, look_ahead, shared_size, take_found};
 use drt_crew::Crew;
+use drt_fixed::{ENOUGH_STATES, MOST_AHEAD};
 use drt_model::Memory;
 use drt_pool::Gate;
 use drt_responses::Response;
@@ -15,11 +16,6 @@ use drt_states::SearchClaim;
 use std::alloc::Global;
 use std::sync::Wait;
 use std::thread::Threads;
-
-// How many states it is worth threads to share.
-const ENOUGH: u64 = 500;
-// How many states a search ahead takes at most, for it may be made for nothing. What takes more is searched by all workers together.
-const MOST_AHEAD: u64 = 16_384;
 
 /// The responses that workers find side by side, each by one of them, where the searches of the analysis tell that it is worth it: those of
 /// the most states first. Each stands at the number of its vertex, in order of the file. A search that finds none is the last one.
@@ -34,7 +30,7 @@ pub(crate) fn respond_ahead<G: Gate, R: Threads + Wait + Sync>(
     let alloc = crew.alloc;
     let sizes = count_states(alloc, searches)?;
     let vertices = list_vertices(alloc, given)?;
-    let enough = crew.gate.alone().min(ENOUGH);
+    let enough = crew.gate.alone().min(ENOUGH_STATES);
     if shared_size(&sizes) < enough || sizes.len() != vertices.len() {
         return Ok(Vec::new(alloc));
     }

@@ -10,11 +10,8 @@ ghost use Rattle.drt_response.specs.Placed.{job_walk_in_priority_order, walk_in_
 use crate::subjects::{VertexAt, higher_count};
 use drt_accepted::Accepted;
 use drt_model::{Memory, Release, Row};
-use drt_releases::{all_releases, cut_walk};
+use drt_releases::{LAST_DEADLINE, all_releases, cut_walk};
 use std::alloc::Global;
-
-// Each walk's offsets are below the finish, and its last job's deadline is at most as much later. Both are at most 1,000,000 ticks.
-const LAST_DEADLINE: u64 = 2_000_000;
 
 /// The job of a vertex that is released at 0, and when it finishes, in ticks.
 #[derive(Clone, Copy)]

@@ -4,7 +4,7 @@ use Rattle.drt_model.specs.Digraph.{IsSoundGraph}
 use Rattle.drt_model.specs.Limits.{IsTaskSet}
 use Rattle.drt_model.specs.declared.tasks.Task.{Task}
 use Rattle.drt_busy.specs.Choice.{graph_at, no_task, task_at}
-use Rattle.drt_choices.specs.Choices.{IsOrder}
+use Rattle.drt_check_trees.specs.Order.{IsOrder}
 use Rattle.drt_claims.specs.Trees.{greatest_deadline}
 use Rattle.drt_graph.proofs.Soundness.{all_sound}
 use Rattle.drt_refine.specs.Below.{tuples}

@@ -18,16 +18,10 @@ use Rattle.std.proofs.lemmas.List.Sorted.{All-permutation, Contains-permutation,
 use Rattle.drt_model.specs.declared.tasks.Task.{Task}
 use Rattle.drt_model.specs.Digraph.{digraph_of}
 use Rattle.drt_busy.specs.Choice.{graph_at, no_task, task_at}
-use Rattle.drt_choices.specs.Choices.{IsOrder}
+use Rattle.drt_check_trees.specs.Order.{IsOrder}
 use Rattle.drt_claims.specs.Trees.{by_priority, higher_count, placed}
+use Rattle.drt_check_trees.proofs.Ranked.{all_range, in_range}
 use Rattle.drt_sp.proofs.Rising.{all_contains, contains_cases, contains_first, contains_later, count_all, count_none, eqb_flips, pairs_head, pairs_tail, rising_unique, sum-map}
-
--- The number of a task is in the range of all.
-in_range : (n k : ℕ) → k < n → Contains (range_with_len 0 n) k
-in_range n k l = (k, omega (arith, length-range_with_len 0 n), omega (arith, get_or-range_with_len 0 n k k l))
-
-pub all_range : (n : ℕ) → All (λ k. k < n) (range_with_len 0 n)
-all_range n = All-from_get_or (λ k. k < n) (range_with_len 0 n) 0 (λ i l. (let m : i < n = omega (arith, length-range_with_len 0 n) in omega (arith, get_or-range_with_len 0 n i 0 m)))
 
 module _ (tasks : List Task) (order : List ℕ) (is : IsOrder tasks order) where
   pub order_count : length order ≡ length tasks
@@ -64,29 +58,6 @@ module _ (tasks : List Task) (order : List ℕ) (is : IsOrder tasks order) where
       | inr after ↦ absurd (omega (arith, order_rises j i after l, ap (λ n. (task_at tasks n).priority) e))
     ]
   ]
-
--- What a sort by priority gives, where no two tasks have one priority.
-pub is_order : (tasks : List Task) (order : List ℕ) → AllPairs (λ s t. s.priority ≢ t.priority) tasks → IsPermutation (range_with_len 0 (length tasks)) order
-    → IsNonDecreasingBy (λ k. (task_at tasks k).priority) order → (AllPairs (λ j k. j ≢ k) order) → IsOrder tasks order
-is_order tasks order distinct perm sorted once = record { permutation = perm; rising = rising }
-  where
-    below : (i : ℕ) (d : ℕ) → i < length order → get_or order i d < length tasks
-    below i d l = All-permutation (λ k. k < length tasks) (range_with_len 0 (length tasks)) order perm (all_range (length tasks)) i d l
-
-    apart : (j k : ℕ) → j < length tasks → k < length tasks → j ≢ k → (task_at tasks j).priority ≢ (task_at tasks k).priority
-    apart j k l m ne same = elim (cases_order j k) [
-      | inl e ↦ ne e
-      | inr o ↦ elim o [
-        | inl before ↦ distinct j k no_task before m same
-        | inr after ↦ distinct k j no_task after l (sym same)
-      ]
-    ]
-
-    rising : AllPairs (λ j k. (task_at tasks j).priority < (task_at tasks k).priority) order
-    rising i j d l m =
-        let le : (task_at tasks (get_or order i d)).priority ≤ (task_at tasks (get_or order j d)).priority = sorted i j d (omega arith) m in
-        let ne = apart (get_or order i d) (get_or order j d) (below i d (omega arith)) (below j d m) (once i j d l m) in
-        omega (arith, le, ne)
 
 -- Putting a task into its place.
 module _ (t : Task) where
@@ -249,18 +220,3 @@ module _ (tasks : List Task) (order : List ℕ) (is : IsOrder tasks order) where
           least : (i : ℕ) → m + i < length order → p' ≤ (task_at tasks (get_or order (m + i) 0)).priority
           least zero n = (let e : m + zero ≡ m = omega arith in omega (arith, ap (λ j. (task_at tasks (get_or order j 0)).priority) e))
           least (suc i) n = (let less : p' < (task_at tasks (get_or order (m + suc i) 0)).priority = order_rises tasks order is m (m + suc i) (omega arith) n in omega (arith, less))
-
--- Numbers from 0 on are all different, in whatever order.
-range_once : (n : ℕ) → AllPairs (λ j k. j ≢ k) (range_with_len 0 n)
-range_once n i j d l m same =
-    let k : j < n = omega (arith, m, length-range_with_len 0 n) in
-    omega (arith, same, get_or-range_with_len 0 n i d (omega arith), get_or-range_with_len 0 n j d k)
-
-pub once_order : (n : ℕ) (order : List ℕ) → IsPermutation (range_with_len 0 n) order → AllPairs (λ j k. j ≢ k) order
-once_order n order perm =
-    AllPairs-from_IsDistinct Decides-eqb order (IsDistinct-IsPermutation eqb eqb_flips (range_with_len 0 n) order perm (IsDistinct-from_AllPairs Decides-eqb (range_with_len 0 n) (range_once n)))
-
-pub range_more : (n : ℕ) → range_with_len 0 (n + 1) ≡ range_with_len 0 n ++ n ∷ []
-range_more n =
-    sym (map-id (range_with_len 0 (n + 1)))
-    ∙ (map-range_with_len_more (λ (k : ℕ). k) 0 n n (omega arith) ∙ ap (λ (xs : List ℕ). xs ++ n ∷ []) (map-id (range_with_len 0 n)))

@@ -17,7 +17,8 @@ use Rattle.drt_busy.specs.Choice.{AreDueBy, AreWalks, IsWalk, due_of, graph_at, 
 use Rattle.drt_busy.specs.WalkReleases.{all_releases, releases_of, with_job}
 use Rattle.drt_tree.specs.Tree.{IsForest, IsPair, LeadsToLeaf, Plain, children, walk}
 use Rattle.drt_refine.specs.Below.{AreBelow, AreNodes}
-use Rattle.drt_choices.specs.Choices.{AreTrees, IsOrder, chosen}
+use Rattle.drt_choices.specs.Choices.{AreTrees, chosen}
+use Rattle.drt_check_trees.specs.Order.{IsOrder}
 use Rattle.drt_busy.specs.Response.{cut}
 use Rattle.drt_choices.specs.Laws.{LeavesMiss, no_releases}
 use Rattle.drt_claims.specs.Claims.{graphs_of}

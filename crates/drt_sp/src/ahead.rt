@@ -2,7 +2,7 @@
 ghost use Rattle.std.specs.Prelude.{◌≡◌, ℕ, ◌+◌, ◌<◌, ◌≤◌, All, IfOk, IfSome, List, length};
 ghost use Rattle.drt_model.specs.Limits.{most_time};
 ghost use Rattle.drt_model.specs.Digraph.{Digraph};
-ghost use Rattle.drt_choices.specs.Choices.{IsOrder};
+ghost use Rattle.drt_check_trees.specs.Order.{IsOrder};
 ghost use Rattle.drt_claims.specs.Claims.{graphs_of};
 ghost use Rattle.drt_sp.specs.Searches.{AreEndsAhead, IsEndAt};
 

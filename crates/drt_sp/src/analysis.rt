@@ -1,16 +1,15 @@
 //! The analysis.
 ghost use Rattle.std.specs.Prelude.{◌≡◌, ◌≤◌, IfOk};
-ghost use Rattle.drt_choices.specs.Choices.{IsOrder};
+ghost use Rattle.drt_check_trees.specs.Order.{IsOrder};
 ghost use Rattle.drt_sp.specs.Answers.{IsTreeAnswer};
 ghost use Rattle.drt_sp.specs.Grown.{IsOutcome, IsTreesAnswer};
 
 use crate::ahead::{EndsAhead, search_ahead};
 use crate::answer::Answer;
 use crate::grown::ProvedTrees;
-use crate::order::priority_order;
 use crate::progress::{Given, Progress};
 use drt_accepted::Accepted;
-use drt_check_trees::greatest_deadline;
+use drt_check_trees::{greatest_deadline, priority_order};
 use drt_claims::Evidence;
 use drt_crew::Crew;
 use drt_model::Memory;
@@ -18,6 +17,9 @@ use drt_pool::Gate;
 use drt_trails::FixedTrail;
 use std::sync::Wait;
 use std::thread::Threads;
+
+/// How many steps each table and each frontier has before an analysis tries tails and states, where its budget is greater.
+pub const ALLOWANCE: u64 = 4_096;
 
 /// Decides whether an accepted set is schedulable under fixed priorities. The workers of the crew end the combinations of a task's vertices
 /// side by side, each those that it takes, and the gate sees each of these turns; the answer is that of one worker, to the byte.

@@ -19,8 +19,8 @@ pub struct ProvedTrees {
 
 impl ProvedTrees {
     /// The trees of an analysis that proved all vertices.
-    pub(crate) fn of(set: &Accepted<'_>, order: Vec<u32>, progress: Progress) -> ProvedTrees
-        requires { AreTreesComplete set.now.tasks order.items progress.forest progress.roots.items progress.trees.items progress.proofs.items }
+    pub(crate) fn of(set: &Accepted<'_>, order: Row<u32>, progress: Progress) -> ProvedTrees
+        requires { AreTreesComplete set.now.tasks order progress.forest progress.roots.items progress.trees.items progress.proofs.items }
         ensures { AreProvedTrees set.now result }
     {
         times_decide();
@@ -30,7 +30,7 @@ impl ProvedTrees {
         ProvedTrees {
             forest,
             roots: Row::from_vec(roots),
-            order: Row::from_vec(order),
+            order,
         }
     }
 }

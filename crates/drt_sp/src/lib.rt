@@ -7,7 +7,7 @@
 //! `budgets_suffice` says how large a budget is enough, by the numbers of the tasks' walks, and `searches_go_on` that a search that spent
 //! its budget could go on.
 //!
-//! Its parts are there for whoever analyses one task alone: `priority_order`, `search_tree` and `prove_vertices`.
+//! Its parts are there for whoever analyses one task alone: `search_tree` and `prove_vertices`.
 #![tactic(auto)]
 
 mod ahead;
@@ -17,7 +17,6 @@ mod attempts;
 mod grown;
 mod joints;
 pub mod laws;
-mod order;
 mod parts;
 mod progress;
 mod proving;
@@ -28,13 +27,12 @@ mod trees;
 mod vertices;
 mod walks;
 
-pub use analysis::{analyse_fixed, analyse_trees};
+pub use analysis::{ALLOWANCE, analyse_fixed, analyse_trees};
 pub use answer::Answer;
 pub use drt_check_trees::greatest_deadline;
 pub use drt_trails::FixedTrail;
 pub use grown::ProvedTrees;
 pub use laws::{budgets_suffice, searches_go_on};
-pub use order::priority_order;
 pub use releases::leaf_releases;
 pub use trees::{TaskTree, TreeSearch, search_tree};
 pub use vertices::{TaskProofs, prove_vertices};

@@ -1,7 +1,7 @@
 //! How far an analysis has come.
 ghost use Rattle.std.specs.Prelude.{◌≡◌, ℕ, ◌+◌, ◌<◌, ◌≤◌, List, length, IfOk, IfSome, MatchOption};
 ghost use Rattle.std.specs.List.{flat_map};
-ghost use Rattle.drt_choices.specs.Choices.{IsOrder};
+ghost use Rattle.drt_check_trees.specs.Order.{IsOrder};
 ghost use Rattle.drt_claims.specs.Claims.{graphs_of};
 ghost use Rattle.drt_claims.specs.Ranges.{IsEvidenceInRange};
 ghost use Rattle.drt_claims.specs.Trees.{greatest_deadline};

@@ -8,12 +8,9 @@ ghost use Rattle.drt_sp.specs.Answers.{IsTupleFor};
 use crate::walks::{VertexTuple, job_walks};
 use drt_accepted::Accepted;
 use drt_model::{Memory, Release, Row};
-use drt_releases::{all_releases, releases_are_in_range};
+use drt_releases::{LAST_DEADLINE, all_releases, releases_are_in_range};
 use drt_tree::Forest;
 use std::alloc::Global;
-
-// Each walk's offsets are below `end`, and its last job's deadline is at most as much later. Both are at most 1,000,000 ticks.
-const LAST_DEADLINE: u64 = 2_000_000;
 
 /// The releases of the walks that a tuple of leaves names, from time 0 and with offsets below `end` ticks, and one of the vertex at
 /// 0, in order of tasks. Each needs its whole execution time.

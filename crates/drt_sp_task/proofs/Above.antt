@@ -15,7 +15,8 @@ use Rattle.drt_steps.specs.Time.{AreChosen}
 use Rattle.drt_refine.specs.Below.{AreNodes}
 use Rattle.drt_refine.specs.declared.step.FrontierEntry.{FrontierEntry}
 use Rattle.drt_choices.specs.Laws.{IsPosed, LeavesPass}
-use Rattle.drt_choices.specs.Choices.{IsOrder, VertexPasses}
+use Rattle.drt_choices.specs.Choices.{VertexPasses}
+use Rattle.drt_check_trees.specs.Order.{IsOrder}
 use Rattle.drt_claims.specs.Trees.{greatest_deadline}
 use Rattle.drt_claims.specs.declared.evidence.ProofClaim.{ProofClaim}
 use Rattle.drt_releases.proofs.Walks.{graph_same}

@@ -7,10 +7,10 @@ use crate::given::Given;
 use crate::trees::{Grown, grow_trees};
 use crate::vertices::decide_over;
 use drt_accepted::Accepted;
+use drt_check_trees::priority_order;
 use drt_crew::Crew;
 use drt_model::Memory;
 use drt_pool::Gate;
-use drt_sp::priority_order;
 use std::sync::Wait;
 use std::thread::Threads;
 

@@ -1,6 +1,6 @@
 //! The miss of a vertex that fails.
 ghost use Rattle.std.specs.Prelude.{IfOk};
-ghost use Rattle.drt_choices.specs.Choices.{IsOrder};
+ghost use Rattle.drt_check_trees.specs.Order.{IsOrder};
 ghost use Rattle.drt_sp_task.specs.Task.{IsTaskMiss};
 ghost use Rattle.drt_sp_task.specs.Trees.{IsFailing};
 

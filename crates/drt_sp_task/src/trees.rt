@@ -1,6 +1,6 @@
 //! The trees of the tasks of higher priority.
 ghost use Rattle.std.specs.Prelude.{◌≡◌, ℕ, ◌+◌, ◌<◌, ◌≤◌, Some, slice_get, length, IfOk, MatchOption};
-ghost use Rattle.drt_choices.specs.Choices.{IsOrder};
+ghost use Rattle.drt_check_trees.specs.Order.{IsOrder};
 ghost use Rattle.drt_sp_task.specs.Trees.{AreTreesUpTo, AreSearchesEnded, IsSpentAtPlace};
 
 use crate::given::Given;

@@ -1,6 +1,6 @@
 //! The vertices of the task.
 ghost use Rattle.std.specs.Prelude.{◌<◌, ◌≤◌, length, IfOk};
-ghost use Rattle.drt_choices.specs.Choices.{IsOrder};
+ghost use Rattle.drt_check_trees.specs.Order.{IsOrder};
 ghost use Rattle.drt_sp_task.specs.Task.{IsTaskAnswer};
 ghost use Rattle.drt_sp_task.specs.Trees.{AreHigherTrees};
 

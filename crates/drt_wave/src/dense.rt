@@ -3,10 +3,8 @@
 use crate::column::Column;
 use crate::plan::Plan;
 use arrayvec::ArrayVec;
+use drt_model::MOST_VERTICES;
 use std::marker::Model;
-
-// The most vertices of a graph.
-const MOST_VERTICES: usize = 96;
 
 /// The greatest works of a graph's walks, by vertex and offset. Contracts see it as its plan and the cells of each vertex. There is a place for
 /// as many vertices as a graph may have, so to close a table takes no memory.

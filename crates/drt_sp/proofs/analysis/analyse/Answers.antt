@@ -2,7 +2,7 @@ use Rattle.std.proofs.Common.{◌≡◌, ◌+◌, ◌-◌, ◌∙◌, ℕ, List,
 use Rattle.std.specs.Prelude.{IfSome}
 use Rattle.drt_model.specs.Contents.{Contents}
 use Rattle.drt_model.specs.declared.tasks.Task.{Task}
-use Rattle.drt_choices.specs.Choices.{IsOrder}
+use Rattle.drt_check_trees.specs.Order.{IsOrder}
 use Rattle.drt_claims.specs.Claims.{graphs_of}
 use Rattle.drt_claims.specs.Trees.{greatest_deadline}
 use Rattle.drt_sp.specs.Progress.{AreTreesGrown, AreProved}

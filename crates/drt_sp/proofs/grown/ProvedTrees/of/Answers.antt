@@ -8,6 +8,5 @@ pub returns : goal.returns
 returns c =
     let f = c.args.progress.forest in
     let shown : (roots order : List ℕ) → ProvedTrees = λ roots order. record { forest = f; roots = roots; order = order } in
-    let made = proved_trees c.args.set.now c.args.order.items c.args.progress c.keep_limits.ensures.limits c.keep_limits.ensures.constrained c.times_decide.ensures c.show_sound.ensures c.requires in
-    subst (λ (roots : List ℕ). AreProvedTrees c.args.set.now (shown roots c.from_vec-2.result)) (sym c.from_vec.ensures)
-    (subst (λ (order : List ℕ). AreProvedTrees c.args.set.now (shown c.args.progress.roots.items order)) (sym c.from_vec-2.ensures) made)
+    let made = proved_trees c.args.set.now c.args.order c.args.progress c.keep_limits.ensures.limits c.keep_limits.ensures.constrained c.times_decide.ensures c.show_sound.ensures c.requires in
+    subst (λ (roots : List ℕ). AreProvedTrees c.args.set.now (shown roots c.args.order)) (sym c.from_vec.ensures) made
