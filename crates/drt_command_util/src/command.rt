@@ -52,8 +52,8 @@ fn print(alloc: Global, bytes: &[u8], set: &TaskSet, graphs: &Graphs) -> Result<
     Ok(Report::new(YES, text))
 }
 
-// A line `NAME NUM/DEN` for the ratio of each task, in order, and a line `total NUM/DEN` for the utilisation of the set,
-// all in lowest terms. A set whose scale exceeds 2^60 is refused with the fault of that limit.
+/// A line `NAME NUM/DEN` for the ratio of each task, in order, and a line `total NUM/DEN` for the utilisation of the set,
+/// all in lowest terms. A set whose scale exceeds 2^60 is refused with the fault of that limit.
 pub fn make_text(alloc: Global, set: &TaskSet, graphs: &Graphs) -> Result<Row<u8>, Unmade>
     requires { graphs.now ≡ map digraph_of set.now.tasks }
     ensures text { IfOk result (λ text. IsUtilisationText set.now text) }
