@@ -4,7 +4,6 @@ use Rattle.std.specs.Prelude.{◌↔◌, Some}
 use Rattle.std.proofs.lemmas.Bool.{cases_lt}
 use Rattle.drt_claims.specs.Rules.{Accepts, Rejects, number_of}
 use Rattle.drt_claims.specs.Statement.{Statement}
-use Rattle.drt_claims.specs.declared.evidence.Evidence.{Evidence}
 use Rattle.drt_claims.specs.declared.evidence.Evidence.TheVariants.{Undecided}
 use Rattle.drt_claims.specs.declared.rule.Rule.{Rule}
 use Rattle.drt_check.specs.Judging.{claimed, IsAcceptance, IsStatementJudged}

@@ -1,14 +1,17 @@
 -- What is found of a statement, rule by rule.
-use Rattle.std.specs.Prelude.{◌≡◌, ℕ, ◌<◌, ◌≤◌, ◌^◌, List, Option, Some, None, length}
+use Rattle.std.specs.Prelude.{◌≡◌, ℕ, ◌<◌, ◌≤◌, IfSome, List, Option, Some, None, length}
 use Rattle.drt_graph.specs.Horizon.{most_horizon}
 use Rattle.drt_model.specs.Digraph.{Digraph}
-use Rattle.drt_claims.specs.Claims.{IsFine, HaveUtilisationBelowOne, IsHorizon}
+use Rattle.drt_claims.specs.Claims.{graphs_of, IsFine, HaveUtilisationBelowOne, IsHorizon}
+use Rattle.drt_claims.specs.Kinds.{ratios_of}
 use Rattle.drt_claims.specs.Rules.{Applies, Keeps, number_of}
 use Rattle.drt_claims.specs.Statement.{Statement}
 use Rattle.drt_claims.specs.declared.evidence.RatioClaim.{RatioClaim}
 use Rattle.drt_claims.specs.declared.rule.Rule.{Rule}
 use Rattle.drt_claims.specs.declared.rule.Rule.TheVariants.{ConstrainedDeadlines, KindOfPolicy, LegalReleases, LeastMiss}
 use Rattle.drt_claims.specs.declared.rule.Rule.TheVariants.{RisingTails, BoundingTails, SearchPerVertex, SearchStates, PassingStates, DominatedChildren}
+use Rattle.drt_check_trees.specs.Order.{IsPriorityOrder}
+use Rattle.drt_check.specs.declared.known.Known.{Known}
 
 -- The rule applies, and those that apply and have smaller numbers are kept.
 pub record IsNextRule (s : Statement) (rule : Rule) : Type 0 where
@@ -47,3 +50,8 @@ pub record HaveHorizon (graphs : List Digraph) (claims : List RatioClaim) : Type
 -- The horizon is at most 2^40.
 abbrev pub HaveNearHorizon : List Digraph → List RatioClaim → Type 0
 HaveNearHorizon graphs claims = (bound : ℕ) × IsHorizon graphs claims bound × (bound ≤ most_horizon)
+
+-- What is known of a statement: the order of its tasks and, once it has been found, the horizon.
+pub record IsKnownOf (s : Statement) (known : Known) : Type 0 where
+  pub order : IsPriorityOrder s.set.tasks known.order
+  pub horizon : IfSome known.horizon (IsHorizon (graphs_of s.set.tasks) (ratios_of s.evidence))

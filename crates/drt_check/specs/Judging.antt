@@ -1,5 +1,5 @@
 -- What the checker's judgement of a dossier says.
-use Rattle.std.specs.Prelude.{◌≡◌, ℕ}
+use Rattle.std.specs.Prelude.{◌≡◌}
 use Rattle.drt_model.specs.Schedulable.{Schedulable}
 use Rattle.drt_claims.specs.Statement.{Statement}
 use Rattle.drt_claims.specs.Rates.{IsAtOne}

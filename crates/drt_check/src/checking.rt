@@ -5,11 +5,12 @@ ghost use Rattle.drt_model.specs.Constrained.{AreConstrained};
 ghost use Rattle.drt_claims.specs.Claims.{graphs_of};
 ghost use Rattle.drt_claims.specs.Kinds.{HasReleases};
 ghost use Rattle.drt_claims.specs.Rules.{Accepts, Keeps, Rejects};
-ghost use Rattle.drt_check.specs.Deciding.{IsRuleDecided, IsNextRule};
+ghost use Rattle.drt_check.specs.Deciding.{IsKnownOf, IsRuleDecided, IsNextRule};
 ghost use Rattle.drt_check.specs.Judging.{IsAcceptance, IsStatementJudged, IsSoundJudgement};
 ghost use Rattle.drt_check.specs.declared.judgement.Judgement.TheVariants.{Rejected};
 
 use crate::judgement::Judgement;
+use crate::known::Known;
 use crate::laws::accepted_is_sound;
 use crate::parts::{claimed, has_releases, is_undecided};
 use crate::rules::{RULES, applies, keeps, keeps_plainly};
@@ -74,9 +75,10 @@ fn first_broken_of(
     requires constrained { AreConstrained dossier.now.set.tasks }
     ensures { IfOk result (IsRuleDecided dossier.now) }
 {
+    let mut known = Known::new(alloc, &dossier.set)?;
     'rules: for i in 0..RULES.len() {
         let rule = RULES[i];
-        if applies(rule, dossier) && !is_kept(alloc, rule, graphs, dossier)? {
+        if applies(rule, dossier) && !is_kept(alloc, rule, graphs, dossier, &mut known)? {
             return Ok(Some(rule));
         }
     }
@@ -89,14 +91,17 @@ fn is_kept(
     rule: Rule,
     graphs: Option<&Graphs>,
     dossier: &Dossier,
+    known: &mut Known,
 ) -> Result<bool, Memory>
     requires graphs { MatchOption (option_copied graphs) (HasReleases dossier.now.evidence) (λ made. made ≡ graphs_of dossier.now.set.tasks) }
     requires constrained { AreConstrained dossier.now.set.tasks }
     requires next { IsNextRule dossier.now rule }
-    ensures { IfOk result (λ kept. IsTrue kept ↔ Keeps rule dossier.now) }
+    requires known { IsKnownOf dossier.now known.old }
+    ensures known { IsKnownOf dossier.now known.new }
+    ensures decided { IfOk result (λ kept. IsTrue kept ↔ Keeps rule dossier.now) }
 {
     match graphs {
-        Some(graphs) => keeps(alloc, rule, graphs, dossier),
+        Some(graphs) => keeps(alloc, rule, graphs, dossier, known),
         None => keeps_plainly(alloc, rule, dossier),
     }
 }

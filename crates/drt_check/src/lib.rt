@@ -7,6 +7,7 @@
 mod checking;
 mod claimed;
 mod judgement;
+mod known;
 mod laws;
 mod parts;
 mod rated;

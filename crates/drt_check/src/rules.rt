@@ -4,30 +4,28 @@ ghost use Rattle.drt_model.specs.Constrained.{AreConstrained};
 ghost use Rattle.drt_claims.specs.Claims.{graphs_of};
 ghost use Rattle.drt_claims.specs.Rules.{Applies, HasClaimedUtilisation, Keeps};
 ghost use Rattle.drt_claims.specs.declared.rule.Rule.TheVariants.{ClaimedUtilisation};
-ghost use Rattle.drt_check.specs.Deciding.{AsksForNoGraphs, IsNextRule, IsOnStates};
+ghost use Rattle.drt_check.specs.Deciding.{AsksForNoGraphs, IsKnownOf, IsNextRule, IsOnStates};
+ghost use Rattle.drt_check_trees.specs.Order.{IsPriorityOrder};
 
 use crate::claimed::{ClaimRule, all_keep, are_lowest};
+use crate::known::Known;
 use crate::parts::{
     fronts_of, has_releases, is_of_policy, miss_of, proofs_of, ratios_of, releases_of, searches_of,
     tails_of, trees_of,
 };
 use crate::releases::is_least_miss;
-use crate::utilisation::{horizon_of, is_below_one, is_fine, is_one, near_horizon};
+use crate::utilisation::{is_below_one, is_fine, is_horizon_near, is_one, near_horizon};
 use drt_check_fronts::{are_closed, are_in_order, have_openings, have_room};
 use drt_check_proofs::{have_passing_times, have_shapes, is_proof_per_vertex};
 use drt_check_searches::{
     bound_walks, has_rising_tails, have_dominated_splits, have_passing_states, have_states,
     is_search_per_vertex,
 };
-use drt_check_trees::{
-    are_trees, cover_walks, have_short_walks, is_tree_per_higher_task, priority_order,
-};
+use drt_check_trees::{are_trees, cover_walks, have_short_walks, is_tree_per_higher_task};
 use drt_claims::{Dossier, Evidence, Rule};
 use drt_graph::Graphs;
 use drt_model::{Memory, legal};
 use std::alloc::Global;
-
-const GREATEST_HORIZON: u128 = 1 << 40;
 
 /// The rules in the order of their numbers.
 pub const RULES: [Rule; 30] = [
@@ -107,12 +105,22 @@ pub fn applies(rule: Rule, dossier: &Dossier) -> bool
 
 /// Whether the dossier keeps the rule, where it keeps those that apply and have smaller numbers. The first was decided
 /// before.
-pub fn keeps(alloc: Global, rule: Rule, graphs: &Graphs, dossier: &Dossier) -> Result<bool, Memory>
+pub fn keeps(
+    alloc: Global,
+    rule: Rule,
+    graphs: &Graphs,
+    dossier: &Dossier,
+    known: &mut Known,
+) -> Result<bool, Memory>
     requires graphs { graphs.now ≡ graphs_of dossier.now.set.tasks }
     requires constrained { AreConstrained dossier.now.set.tasks }
     requires next { IsNextRule dossier.now rule }
-    ensures { IfOk result (λ kept. IsTrue kept ↔ Keeps rule dossier.now) }
+    requires known { IsKnownOf dossier.now known.old }
+    ensures known { IsKnownOf dossier.now known.new }
+    ensures decided { IfOk result (λ kept. IsTrue kept ↔ Keeps rule dossier.now) }
 {
+    let order = known.order.as_slice();
+    let horizon = &mut known.horizon;
     let ratios = ratios_of(dossier);
     let fronts = fronts_of(dossier);
     let trees = trees_of(dossier);
@@ -128,33 +136,38 @@ pub fn keeps(alloc: Global, rule: Rule, graphs: &Graphs, dossier: &Dossier) -> R
         Rule::TightCycles => Ok(all_keep(ClaimRule::Tight, graphs, ratios)),
         Rule::FineScale => Ok(is_fine(ratios)),
         Rule::ClaimedUtilisation => Ok(has_claimed_utilisation(graphs, dossier)),
-        Rule::NearHorizon => Ok(horizon_of(graphs, ratios) <= GREATEST_HORIZON),
-        Rule::OrderedFronts => Ok(are_in_order(graphs, fronts, near_horizon(graphs, ratios))),
-        Rule::CoveredOpenings => Ok(have_openings(graphs, fronts, near_horizon(graphs, ratios))),
-        Rule::CoveredExtensions => Ok(are_closed(graphs, fronts, near_horizon(graphs, ratios))),
-        Rule::Room => have_room(alloc, graphs, fronts, near_horizon(graphs, ratios)),
+        Rule::NearHorizon => Ok(is_horizon_near(graphs, ratios, horizon)),
+        Rule::OrderedFronts => Ok(are_in_order(
+            graphs,
+            fronts,
+            near_horizon(graphs, ratios, horizon),
+        )),
+        Rule::CoveredOpenings => Ok(have_openings(
+            graphs,
+            fronts,
+            near_horizon(graphs, ratios, horizon),
+        )),
+        Rule::CoveredExtensions => Ok(are_closed(
+            graphs,
+            fronts,
+            near_horizon(graphs, ratios, horizon),
+        )),
+        Rule::Room => have_room(alloc, graphs, fronts, near_horizon(graphs, ratios, horizon)),
         Rule::TreePerHigherTask => Ok(is_tree_per_higher_task(&dossier.set, trees)),
-        Rule::ShortWalks => {
-            let order = priority_order(alloc, &dossier.set)?;
-            Ok(have_short_walks(&dossier.set, graphs, order.as_slice(), trees))
-        }
-        Rule::CoveredWalks => {
-            let order = priority_order(alloc, &dossier.set)?;
-            cover_walks(alloc, &dossier.set, graphs, order.as_slice(), trees)
-        }
+        Rule::ShortWalks => Ok(have_short_walks(&dossier.set, graphs, order, trees)),
+        Rule::CoveredWalks => cover_walks(alloc, &dossier.set, graphs, order, trees),
         Rule::TreeShapes => are_trees(alloc, trees),
         Rule::ProofPerVertex => Ok(is_proof_per_vertex(&dossier.set, proofs)),
         Rule::ProofShapes => have_shapes(alloc, &dossier.set, trees, proofs),
         Rule::PassingTimes => {
-            let order = priority_order(alloc, &dossier.set)?;
-            have_passing_times(alloc, &dossier.set, graphs, order.as_slice(), trees, proofs)
+            have_passing_times(alloc, &dossier.set, graphs, order, trees, proofs)
         }
         Rule::RisingTails
         | Rule::BoundingTails
         | Rule::SearchPerVertex
         | Rule::SearchStates
         | Rule::PassingStates
-        | Rule::DominatedChildren => keeps_of_states(alloc, rule, graphs, dossier),
+        | Rule::DominatedChildren => keeps_of_states(alloc, rule, graphs, dossier, order),
     }
 }
 
@@ -164,18 +177,18 @@ fn keeps_of_states(
     rule: Rule,
     graphs: &Graphs,
     dossier: &Dossier,
+    order: &[u32],
 ) -> Result<bool, Memory>
     requires graphs { graphs.now ≡ graphs_of dossier.now.set.tasks }
     requires constrained { AreConstrained dossier.now.set.tasks }
     requires next { IsNextRule dossier.now rule }
+    requires order { IsPriorityOrder dossier.now.set.tasks order.now }
     requires states { IsOnStates rule }
     ensures { IfOk result (λ kept. IsTrue kept ↔ Keeps rule dossier.now) }
 {
     let set = &dossier.set;
     let tails = tails_of(dossier);
     let searches = searches_of(dossier);
-    let order = priority_order(alloc, set)?;
-    let order = order.as_slice();
     match rule {
         Rule::RisingTails => Ok(has_rising_tails(set, graphs, order, tails)),
         Rule::BoundingTails => Ok(bound_walks(set, graphs, order, tails)),

@@ -1,5 +1,5 @@
 //! What claimed ratios come to: whether their utilisation is the claimed one, and the horizon that they give.
-ghost use Rattle.std.specs.Prelude.{◌≡◌, ◌≤◌, ◌^◌, ◌↔◌, All, IsTrue, length};
+ghost use Rattle.std.specs.Prelude.{◌≡◌, ◌≤◌, ◌^◌, ◌↔◌, All, IfSome, IsTrue, Some, length};
 ghost use Rattle.drt_model.specs.Utilisation.{IsScale, most_scale};
 ghost use Rattle.drt_claims.specs.Claims.{HaveUtilisationBelowOne, HaveUtilisationOne, IsFine, IsHorizon, fractions};
 ghost use Rattle.drt_claims.specs.Ranges.{IsInRangeRatio};
@@ -9,6 +9,8 @@ use crate::rated::Claimed;
 use drt_claims::RatioClaim;
 use drt_graph::Graphs;
 use drt_rates::{horizon, rate, scale};
+
+const GREATEST_HORIZON: u128 = 1 << 40;
 
 /// Whether the scale of the ratios is at most 2^60.
 pub fn is_fine(ratios: &[RatioClaim]) -> bool
@@ -56,8 +58,43 @@ pub fn is_one(ratios: &[RatioClaim]) -> bool
     rate::<Claimed>(ratios, common) == common as u128
 }
 
-/// The horizon that the ratios and potentials give.
-pub fn horizon_of(graphs: &Graphs, ratios: &[RatioClaim]) -> u128
+/// Whether the horizon that the ratios and potentials give is at most 2^40 ticks. It is kept as the known one where it is.
+pub fn is_horizon_near(graphs: &Graphs, ratios: &[RatioClaim], known: &mut Option<u64>) -> bool
+    requires in_range { All IsInRangeRatio ratios.now }
+    requires given { HaveHorizon graphs.now ratios.now }
+    requires known { IfSome known.old (IsHorizon graphs.now ratios.now) }
+    ensures near { IsTrue result ↔ HaveNearHorizon graphs.now ratios.now }
+    ensures known { IfSome known.new (IsHorizon graphs.now ratios.now) }
+{
+    let bound = horizon_of(graphs, ratios);
+    if bound > GREATEST_HORIZON {
+        return false;
+    }
+    *known = Some(bound as u64);
+    true
+}
+
+/// That horizon, where it is known to be at most 2^40 ticks. It is found only where it isn't known yet, and then kept.
+pub fn near_horizon(graphs: &Graphs, ratios: &[RatioClaim], known: &mut Option<u64>) -> u64
+    requires in_range { All IsInRangeRatio ratios.now }
+    requires given { HaveHorizon graphs.now ratios.now }
+    requires near { HaveNearHorizon graphs.now ratios.now }
+    requires known { IfSome known.old (IsHorizon graphs.now ratios.now) }
+    ensures value { IsHorizon graphs.now ratios.now result }
+    ensures known { known.new ≡ Some result }
+{
+    match *known {
+        Some(bound) => bound,
+        None => {
+            let bound = horizon_of(graphs, ratios) as u64;
+            *known = Some(bound);
+            bound
+        }
+    }
+}
+
+// The horizon.
+fn horizon_of(graphs: &Graphs, ratios: &[RatioClaim]) -> u128
     requires in_range { All IsInRangeRatio ratios.now }
     requires given { HaveHorizon graphs.now ratios.now }
     ensures { IsHorizon graphs.now ratios.now result }
@@ -65,14 +102,4 @@ pub fn horizon_of(graphs: &Graphs, ratios: &[RatioClaim]) -> u128
     graphs.count();
     let common = fine_scale(ratios);
     horizon::<Claimed>(graphs, ratios, common, rate::<Claimed>(ratios, common))
-}
-
-/// That horizon, where it is known to be at most 2^40 ticks.
-pub fn near_horizon(graphs: &Graphs, ratios: &[RatioClaim]) -> u64
-    requires in_range { All IsInRangeRatio ratios.now }
-    requires given { HaveHorizon graphs.now ratios.now }
-    requires near { HaveNearHorizon graphs.now ratios.now }
-    ensures { IsHorizon graphs.now ratios.now result }
-{
-    horizon_of(graphs, ratios) as u64
 }

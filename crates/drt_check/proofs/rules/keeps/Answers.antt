@@ -5,9 +5,9 @@ use Rattle.drt_claims.specs.Kinds.{fronts_of, ratios_of}
 use Rattle.drt_claims.specs.Statement.{Statement}
 use Rattle.drt_claims.specs.declared.rule.Rule.TheVariants.{LowestTerms, PotentialPerVertex, FittingPotentials, ClosedCycles, TightCycles, NearHorizon}
 use Rattle.drt_claims.specs.declared.rule.Rule.TheVariants.{OrderedFronts, CoveredOpenings, CoveredExtensions, Room}
-use Rattle.drt_claims.specs.declared.rule.Rule.TheVariants.{TreePerHigherTask, ShortWalks, CoveredWalks, TreeShapes, ProofShapes, PassingTimes}
+use Rattle.drt_claims.specs.declared.rule.Rule.TheVariants.{TreePerHigherTask, ShortWalks, TreeShapes, ProofShapes}
 use Rattle.drt_check.specs.Deciding.{IsNextRule}
-use Rattle.drt_check.proofs.Rows.{counted, decides, decides_at, decides_near, decides_order, given, in_order, near}
+use Rattle.drt_check.proofs.Rows.{counted, decides, decides_at, decides_order, given, in_order, near}
 use Rattle.drt_check.proofs.rules.keeps.Goals as goal
 
 pub all_keep-requires-clause-counted : goal.all_keep-requires-clause-counted
@@ -30,8 +30,8 @@ all_keep-requires-in-TightCycles-clause-counted c =
     let next = subst (λ r. IsNextRule c.args.dossier.now r) c.in-TightCycles.is c.requires.next in
     rw (c.ratios_of-ratios.ensures.value, c.requires.graphs) (counted c.args.dossier.now TightCycles next next.applies (omega arith))
 
-pub horizon_of-requires-clause-given : goal.horizon_of-requires-clause-given
-horizon_of-requires-clause-given c =
+pub is_horizon_near-requires-clause-given : goal.is_horizon_near-requires-clause-given
+is_horizon_near-requires-clause-given c =
     let next = subst (λ r. IsNextRule c.args.dossier.now r) c.in-NearHorizon.is c.requires.next in
     rw (c.ratios_of-ratios.ensures.value, c.requires.graphs) (given c.args.dossier.now NearHorizon next next.applies (omega arith))
 
@@ -78,19 +78,19 @@ near_horizon-requires-in-Room-clause-near c =
 pub have_openings-requires : goal.have_openings-requires
 have_openings-requires c =
     let next = subst (λ r. IsNextRule c.args.dossier.now r) c.in-CoveredOpenings.is c.requires.next in
-    let is = rw (c.ratios_of-ratios.ensures.value, c.requires.graphs) at c.near_horizon-in-CoveredOpenings.ensures in
+    let is = rw (c.ratios_of-ratios.ensures.value, c.requires.graphs) at c.near_horizon-in-CoveredOpenings.ensures.value in
     rw (c.fronts_of-fronts.ensures.value, c.requires.graphs) (in_order c.args.dossier.now CoveredOpenings next next.applies (omega arith) c.near_horizon-in-CoveredOpenings.result is)
 
 pub are_closed-requires-clause-order : goal.are_closed-requires-clause-order
 are_closed-requires-clause-order c =
     let next = subst (λ r. IsNextRule c.args.dossier.now r) c.in-CoveredExtensions.is c.requires.next in
-    let is = rw (c.ratios_of-ratios.ensures.value, c.requires.graphs) at c.near_horizon-in-CoveredExtensions.ensures in
+    let is = rw (c.ratios_of-ratios.ensures.value, c.requires.graphs) at c.near_horizon-in-CoveredExtensions.ensures.value in
     rw (c.fronts_of-fronts.ensures.value, c.requires.graphs) (in_order c.args.dossier.now CoveredExtensions next next.applies (omega arith) c.near_horizon-in-CoveredExtensions.result is)
 
 pub have_room-requires : goal.have_room-requires
 have_room-requires c =
     let next = subst (λ r. IsNextRule c.args.dossier.now r) c.in-Room.is c.requires.next in
-    let is = rw (c.ratios_of-ratios.ensures.value, c.requires.graphs) at c.near_horizon-in-Room.ensures in
+    let is = rw (c.ratios_of-ratios.ensures.value, c.requires.graphs) at c.near_horizon-in-Room.ensures.value in
     rw (c.fronts_of-fronts.ensures.value, c.requires.graphs) (in_order c.args.dossier.now Room next next.applies (omega arith) c.near_horizon-in-Room.result is)
 
 pub have_short_walks-requires-clause-per_task : goal.have_short_walks-requires-clause-per_task
@@ -134,71 +134,70 @@ have_passing_times-requires-clause-proofs c =
     let set = ap (λ (s : Statement). s.set) c.dossier.view_is in
     rw (set, c.trees_of-trees.ensures.value, c.proofs_of-proofs.ensures.value) (next.before ProofShapes next.applies (omega arith))
 
-pub returns-in-LowestTerms : goal.returns-in-LowestTerms
-returns-in-LowestTerms c =
+pub returns-in-LowestTerms-clause-decided : goal.returns-in-LowestTerms-clause-decided
+returns-in-LowestTerms-clause-decided c =
     decides c.args.dossier.now c.args.rule LowestTerms c.are_lowest.result c.in-LowestTerms.is (rw c.ratios_of-ratios.ensures.value at c.are_lowest.ensures)
 
-pub returns-in-PotentialPerVertex : goal.returns-in-PotentialPerVertex
-returns-in-PotentialPerVertex c =
+pub returns-in-PotentialPerVertex-clause-decided : goal.returns-in-PotentialPerVertex-clause-decided
+returns-in-PotentialPerVertex-clause-decided c =
     decides c.args.dossier.now c.args.rule PotentialPerVertex c.all_keep.result c.in-PotentialPerVertex.is
     (rw (c.ratios_of-ratios.ensures.value, c.requires.graphs) at c.all_keep.ensures)
 
-pub returns-in-FittingPotentials : goal.returns-in-FittingPotentials
-returns-in-FittingPotentials c =
+pub returns-in-FittingPotentials-clause-decided : goal.returns-in-FittingPotentials-clause-decided
+returns-in-FittingPotentials-clause-decided c =
     decides c.args.dossier.now c.args.rule FittingPotentials c.all_keep-in-FittingPotentials.result c.in-FittingPotentials.is
     (rw (c.ratios_of-ratios.ensures.value, c.requires.graphs) at c.all_keep-in-FittingPotentials.ensures)
 
-pub returns-in-ClosedCycles : goal.returns-in-ClosedCycles
-returns-in-ClosedCycles c =
+pub returns-in-ClosedCycles-clause-decided : goal.returns-in-ClosedCycles-clause-decided
+returns-in-ClosedCycles-clause-decided c =
     decides c.args.dossier.now c.args.rule ClosedCycles c.all_keep-in-ClosedCycles.result c.in-ClosedCycles.is
     (rw (c.ratios_of-ratios.ensures.value, c.requires.graphs) at c.all_keep-in-ClosedCycles.ensures)
 
-pub returns-in-TightCycles : goal.returns-in-TightCycles
-returns-in-TightCycles c =
+pub returns-in-TightCycles-clause-decided : goal.returns-in-TightCycles-clause-decided
+returns-in-TightCycles-clause-decided c =
     decides c.args.dossier.now c.args.rule TightCycles c.all_keep-in-TightCycles.result c.in-TightCycles.is
     (rw (c.ratios_of-ratios.ensures.value, c.requires.graphs) at c.all_keep-in-TightCycles.ensures)
 
-pub returns-in-NearHorizon : goal.returns-in-NearHorizon
-returns-in-NearHorizon c =
-    let d = c.args.dossier.now in
-    let is = rw (c.ratios_of-ratios.ensures.value, c.requires.graphs) at c.horizon_of.ensures in
-    decides d c.args.rule NearHorizon _ c.in-NearHorizon.is (decides_near (graphs_of d.set.tasks) (ratios_of d.evidence) c.horizon_of.result is)
+pub returns-in-NearHorizon-clause-decided : goal.returns-in-NearHorizon-clause-decided
+returns-in-NearHorizon-clause-decided c =
+    decides c.args.dossier.now c.args.rule NearHorizon c.is_horizon_near.result c.in-NearHorizon.is
+    (rw (c.ratios_of-ratios.ensures.value, c.requires.graphs) at c.is_horizon_near.ensures.near)
 
-pub returns-in-OrderedFronts : goal.returns-in-OrderedFronts
-returns-in-OrderedFronts c =
+pub returns-in-OrderedFronts-clause-decided : goal.returns-in-OrderedFronts-clause-decided
+returns-in-OrderedFronts-clause-decided c =
     let d = c.args.dossier.now in
-    let is = rw (c.ratios_of-ratios.ensures.value, c.requires.graphs) at c.near_horizon.ensures in
+    let is = rw (c.ratios_of-ratios.ensures.value, c.requires.graphs) at c.near_horizon.ensures.value in
     let order = rw (c.fronts_of-fronts.ensures.value, c.requires.graphs) at c.are_in_order.ensures in
     decides d c.args.rule OrderedFronts c.are_in_order.result c.in-OrderedFronts.is
     (decides_order (graphs_of d.set.tasks) (ratios_of d.evidence) c.near_horizon.result is (fronts_of d.evidence) c.are_in_order.result order)
 
-pub returns-in-CoveredOpenings : goal.returns-in-CoveredOpenings
-returns-in-CoveredOpenings c =
+pub returns-in-CoveredOpenings-clause-decided : goal.returns-in-CoveredOpenings-clause-decided
+returns-in-CoveredOpenings-clause-decided c =
     let d = c.args.dossier.now in
-    let is = rw (c.ratios_of-ratios.ensures.value, c.requires.graphs) at c.near_horizon-in-CoveredOpenings.ensures in
+    let is = rw (c.ratios_of-ratios.ensures.value, c.requires.graphs) at c.near_horizon-in-CoveredOpenings.ensures.value in
     let each = rw (c.fronts_of-fronts.ensures.value, c.requires.graphs) at c.have_openings.ensures in
     decides d c.args.rule CoveredOpenings c.have_openings.result c.in-CoveredOpenings.is
     (decides_at (graphs_of d.set.tasks) (ratios_of d.evidence) c.near_horizon-in-CoveredOpenings.result is
     (λ n. Each (HasOpenings n) (graphs_of d.set.tasks) (fronts_of d.evidence)) c.have_openings.result each)
 
-pub returns-in-CoveredExtensions : goal.returns-in-CoveredExtensions
-returns-in-CoveredExtensions c =
+pub returns-in-CoveredExtensions-clause-decided : goal.returns-in-CoveredExtensions-clause-decided
+returns-in-CoveredExtensions-clause-decided c =
     let d = c.args.dossier.now in
-    let is = rw (c.ratios_of-ratios.ensures.value, c.requires.graphs) at c.near_horizon-in-CoveredExtensions.ensures in
+    let is = rw (c.ratios_of-ratios.ensures.value, c.requires.graphs) at c.near_horizon-in-CoveredExtensions.ensures.value in
     let each = rw (c.fronts_of-fronts.ensures.value, c.requires.graphs) at c.are_closed.ensures in
     decides d c.args.rule CoveredExtensions c.are_closed.result c.in-CoveredExtensions.is
     (decides_at (graphs_of d.set.tasks) (ratios_of d.evidence) c.near_horizon-in-CoveredExtensions.result is
     (λ n. Each (IsClosedFront n) (graphs_of d.set.tasks) (fronts_of d.evidence)) c.are_closed.result each)
 
-pub returns-in-TreeShapes : goal.returns-in-TreeShapes
-returns-in-TreeShapes c = rw c.in-TreeShapes.is (rw c.trees_of-trees.ensures.value at c.are_trees.ensures)
+pub returns-in-TreeShapes-clause-decided : goal.returns-in-TreeShapes-clause-decided
+returns-in-TreeShapes-clause-decided c = rw c.in-TreeShapes.is (rw c.trees_of-trees.ensures.value at c.are_trees.ensures)
 
-pub returns-in-ProofShapes : goal.returns-in-ProofShapes
-returns-in-ProofShapes c =
+pub returns-in-ProofShapes-clause-decided : goal.returns-in-ProofShapes-clause-decided
+returns-in-ProofShapes-clause-decided c =
     let set = ap (λ (s : Statement). s.set) c.dossier.view_is in
     rw c.in-ProofShapes.is (rw (set, c.trees_of-trees.ensures.value, c.proofs_of-proofs.ensures.value) at c.have_shapes.ensures)
 
-pub returns-in_ok-order-in-PassingTimes : goal.returns-in_ok-order-in-PassingTimes
-returns-in_ok-order-in-PassingTimes c =
+pub returns-in-PassingTimes-clause-decided : goal.returns-in-PassingTimes-clause-decided
+returns-in-PassingTimes-clause-decided c =
     let set = ap (λ (s : Statement). s.set) c.dossier.view_is in
     rw c.in-PassingTimes.is (rw (set, c.trees_of-trees.ensures.value, c.proofs_of-proofs.ensures.value) at c.have_passing_times.ensures)

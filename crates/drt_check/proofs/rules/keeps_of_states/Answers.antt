@@ -6,7 +6,7 @@ use Rattle.drt_states.specs.declared.claims.TailClaim.{TailClaim}
 use Rattle.drt_claims.specs.Kinds.{tails_of}
 use Rattle.drt_claims.specs.Searches.{HasDominatedChildren, HasPassingStates}
 use Rattle.drt_claims.specs.Statement.{Statement}
-use Rattle.drt_claims.specs.declared.rule.Rule.TheVariants.{BoundingTails, DominatedChildren, PassingStates, RisingTails, SearchStates}
+use Rattle.drt_claims.specs.declared.rule.Rule.TheVariants.{DominatedChildren, RisingTails, SearchStates}
 use Rattle.drt_check.specs.Deciding.{IsNextRule}
 use Rattle.drt_check.proofs.Rows.{decides}
 use Rattle.drt_check.proofs.rules.keeps_of_states.Goals as goal

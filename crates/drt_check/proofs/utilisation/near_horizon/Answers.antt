@@ -2,7 +2,7 @@ use Rattle.std.proofs.Common.{arith}
 use Rattle.drt_check.proofs.Rows.{near_fits}
 use Rattle.drt_check.proofs.utilisation.near_horizon.Goals as goal
 
-pub overflow_cast-result : goal.overflow_cast-result
-overflow_cast-result c =
-    let near = near_fits c.args.graphs.now c.args.ratios.now c.horizon_of.result c.horizon_of.ensures c.requires.near in
+pub overflow_cast-bound : goal.overflow_cast-bound
+overflow_cast-bound c =
+    let near = near_fits c.args.graphs.now c.args.ratios.now c.horizon_of-bound.result c.horizon_of-bound.ensures c.requires.near in
     omega (arith, near)
