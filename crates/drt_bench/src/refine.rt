@@ -7,6 +7,8 @@ ghost use Rattle.std.specs.Prelude.{◌≡◌, ◌≤◌, ◌∷◌, []};
 ghost use Rattle.drt_steps.specs.Time.{AreChosen};
 
 use crate::input::number;
+use drt_crew::Crew;
+use drt_effort::Effort;
 use drt_model::Memory;
 use drt_pool::EagerGate;
 use drt_refine::Frontier;
@@ -42,17 +44,13 @@ fn steps<R: Threads + Wait + Sync>(
         let _reply = frontier.drive(forest, 0);
         frontier
     } else {
-        let (frontier, _reply) = refine(
+        let crew = Crew {
             rt,
             alloc,
-            forest,
-            &[root],
-            WCET,
-            deadline,
-            BUDGET,
-            workers,
-            &EagerGate,
-        )?;
+            effort: Effort::new(workers, BUDGET),
+            gate: &EagerGate,
+        };
+        let (frontier, _reply) = refine(&crew, forest, &[root], WCET, deadline)?;
         frontier
     };
     Ok(frontier.log().len())

@@ -4,8 +4,8 @@ ghost use Rattle.drt_graph.specs.Horizon.{most_horizon};
 ghost use Rattle.drt_model.specs.Digraph.{vertex_count};
 
 use drt_ahead::shared_size;
-use drt_effort::MOST_WORKERS;
 use drt_edf_fronts::has_wave_table;
+use drt_effort::MOST_WORKERS;
 use drt_graph::{Graph, Graphs};
 use drt_model::Memory;
 use std::alloc::Global;

@@ -5,9 +5,9 @@ ghost use Rattle.drt_table.specs.Machine.{is_finished};
 ghost use Rattle.drt_table.specs.View.{setting_of, state_of};
 
 use drt_demand::DemandLabel;
+use drt_edf_fronts::{demand_walk, front_of};
 use drt_fixtures::shapes::RETURNING;
 use drt_fixtures::{Shape, make_set};
-use drt_edf_fronts::{demand_walk, front_of};
 use drt_graph::{FrontEntry, Graph, Graphs, check};
 use drt_table::Table;
 use std::alloc::Global;

@@ -6,7 +6,7 @@ ghost use Rattle.drt_refine.specs.Below.{AreBelow};
 use drt_crew::Crew;
 use drt_effort::Effort;
 use drt_model::{Memory, Row};
-use drt_pool::{Gate, OpenGate};
+use drt_pool::Gate;
 use drt_refine::{FrontierReply, over_every_interleaving};
 use drt_shared_frontier::refine;
 use drt_steps::Steps;
@@ -51,10 +51,9 @@ fn can_start(forest: &Forest, roots: &[u32], deadline: u32) -> bool
     are_chosen(deadline as u64, forest.all(), roots)
 }
 
-// Whether a time passes for each tuple of leaves below the roots, by the frontier's own search.
-fn all_pass<R: Threads + Wait + Sync>(
-    rt: &R,
-    alloc: Global,
+// Whether a time passes for each tuple of leaves below the roots, by the frontier's own search, which one of the crew makes.
+fn all_pass<G: Gate, R: Threads + Wait + Sync>(
+    crew: &Crew<'_, G, R>,
     forest: &Forest,
     roots: &[u32],
     wcet: u32,
@@ -67,9 +66,8 @@ fn all_pass<R: Threads + Wait + Sync>(
     ensures { IfOk result (λ yes. yes ≡ true → (tuple : List ℕ) → AreBelow forest.now tuple roots.now → (t : ℕ) × Passes wcet deadline forest.now.pool tuple t) }
 {
     over_every_interleaving();
-    let (_frontier, reply) = refine(
-        rt, alloc, forest, roots, wcet, deadline, STEPS, 1, &OpenGate,
-    )?;
+    let one = crew.with(Effort::new(1, STEPS));
+    let (_frontier, reply) = refine(&one, forest, roots, wcet, deadline)?;
     match reply {
         FrontierReply::Finished => Ok(true),
         _ => Ok(false),
@@ -100,15 +98,15 @@ pub(crate) fn search<G: Gate, R: Threads + Wait + Sync>(
     if !can_start(forest, roots, deadline) {
         return Err("the functions go to the deadline".into());
     }
-    if !all_pass(rt, alloc, forest, roots, wcet, deadline)? {
-        return Err("a time passes for each tuple".into());
-    }
     let crew = Crew {
         rt,
         alloc,
         effort: Effort::new(workers, budget),
         gate,
     };
+    if !all_pass(&crew, forest, roots, wcet, deadline)? {
+        return Err("a time passes for each tuple".into());
+    }
     Ok(worst(&crew, forest, roots, wcet, deadline)?)
 }
 

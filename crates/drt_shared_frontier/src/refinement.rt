@@ -1,7 +1,6 @@
 //! Working a frontier to its end.
 
 ghost use Rattle.std.specs.Prelude.{◌≡◌, ℕ, ◌≤◌, IfOk, length};
-ghost use Rattle.drt_effort.specs.Efforts.{most_budget};
 ghost use Rattle.drt_model.specs.Limits.{most_time};
 ghost use Rattle.drt_pool.specs.Turns.{EachPlace, IsEndOfTurns};
 ghost use Rattle.drt_refine.specs.Drive.{StopsAt};
@@ -12,12 +11,12 @@ ghost use Rattle.drt_shared_frontier.specs.Passes.{IsPassOfFrontier};
 
 use crate::pass::FrontierPass;
 use crate::shared::SharedFrontier;
+use drt_crew::Crew;
 use drt_frontier_board::FrontierAnswer;
 use drt_model::{Memory, Row};
 use drt_pool::{Gate, Turn, Work, run_all};
 use drt_refine::{Frontier, FrontierReply};
 use drt_tree::Forest;
-use std::alloc::Global;
 use std::sync::Wait;
 use std::thread::Threads;
 
@@ -66,77 +65,76 @@ fn turn_after(answer: FrontierAnswer) -> Turn {
 }
 
 /// Works the frontier of a job of this wcet and deadline (in ticks) and of the trees with these roots, until there is no combination
-/// left, one has failed or the budget of steps is spent, and answers the frontier and where it came to an end: Finished, Failed or Spent.
+/// left, one has failed or the crew's steps are spent, and answers the frontier and where it came to an end: Finished, Failed or Spent.
 ///
 /// A step of a frontier is shorter than handing on its lock (`bench/refine`), so workers share a frontier only where the gate wants all
 /// of them to begin at once: where its `alone` is 0. They take combinations and settle them, and the caller goes on from what they
 /// leave. Otherwise, and where there is one worker, the caller drives a frontier of its own without a lock, and the gate sees no turn
 /// of it.
 pub fn refine<G: Gate, R: Threads + Wait + Sync>(
-    rt: &R,
-    alloc: Global,
+    crew: &Crew<'_, G, R>,
     forest: &Forest,
     roots: &[u32],
     wcet: u32,
     deadline: u32,
-    budget: u64,
-    workers: u32,
-    gate: &G,
 ) -> Result<(Frontier, FrontierReply), Memory>
     requires few { length roots.now ≤ 31 }
     requires roots { AreChosen deadline forest.now.pool roots.now }
     requires wcet { (1 ≤ wcet) × (wcet ≤ most_time) }
     requires deadline { (1 ≤ deadline) × (deadline ≤ most_time) }
-    requires budget { (1 ≤ budget) × (budget ≤ most_budget) }
-    requires workers { (1 ≤ workers) × (workers ≤ 16) }
-    ensures setting { IfOk result (λ r. setting_of forest.now r.0 ≡ record { forest = forest.now; roots = roots.now; wcet = wcet; deadline = deadline; budget = budget }) }
+    ensures setting { IfOk result (λ r. setting_of forest.now r.0
+        ≡ record { forest = forest.now; roots = roots.now; wcet = wcet; deadline = deadline; budget = crew.now.effort.budget }) }
     ensures frontier { IfOk result (λ r. IsFrontier forest.now r.0) }
     ensures eager { IfOk result (λ r. IsEager (setting_of forest.now r.0) r.0.log) }
     ensures stops { IfOk result (λ r. StopsAt (setting_of forest.now r.0) (state_of r.0) r.1) }
 {
-    if workers == 1 || gate.alone() > 0 {
-        return drive_alone(alloc, forest, roots, wcet, deadline, budget);
+    if crew.effort.workers() == 1 || crew.gate.alone() > 0 {
+        return drive_alone(crew, forest, roots, wcet, deadline);
     }
     let (shared, passes) = SharedFrontier::start(
-        alloc, forest, roots, wcet, deadline, budget, workers,
+        crew.alloc,
+        forest,
+        roots,
+        wcet,
+        deadline,
+        crew.effort,
     )?;
-    let passes = run_passes(rt, &shared, forest, passes, gate);
+    let passes = run_passes(crew, &shared, forest, passes);
     let mut frontier = shared.finish(passes);
     let reply = frontier.drive(forest, DRIVER);
     Ok((frontier, reply))
 }
 
 // The caller drives a frontier of its own.
-fn drive_alone(
-    alloc: Global,
+fn drive_alone<G, R>(
+    crew: &Crew<'_, G, R>,
     forest: &Forest,
     roots: &[u32],
     wcet: u32,
     deadline: u32,
-    budget: u64,
 ) -> Result<(Frontier, FrontierReply), Memory>
     requires few { length roots.now ≤ 31 }
     requires roots { AreChosen deadline forest.now.pool roots.now }
     requires wcet { (1 ≤ wcet) × (wcet ≤ most_time) }
     requires deadline { (1 ≤ deadline) × (deadline ≤ most_time) }
-    requires budget { (1 ≤ budget) × (budget ≤ most_budget) }
-    ensures setting { IfOk result (λ r. setting_of forest.now r.0 ≡ record { forest = forest.now; roots = roots.now; wcet = wcet; deadline = deadline; budget = budget }) }
+    ensures setting { IfOk result (λ r. setting_of forest.now r.0
+        ≡ record { forest = forest.now; roots = roots.now; wcet = wcet; deadline = deadline; budget = crew.now.effort.budget }) }
     ensures frontier { IfOk result (λ r. IsFrontier forest.now r.0) }
     ensures eager { IfOk result (λ r. IsEager (setting_of forest.now r.0) r.0.log) }
     ensures stops { IfOk result (λ r. StopsAt (setting_of forest.now r.0) (state_of r.0) r.1) }
 {
-    let mut alone = Frontier::start(alloc, forest, roots, wcet, deadline, budget)?;
+    let budget = crew.effort.budget();
+    let mut alone = Frontier::start(crew.alloc, forest, roots, wcet, deadline, budget)?;
     let reply = alone.drive(forest, DRIVER);
     Ok((alone, reply))
 }
 
 // All workers work, each through its pass, until each has stopped.
 fn run_passes<G: Gate, R: Threads + Wait + Sync>(
-    rt: &R,
+    crew: &Crew<'_, G, R>,
     shared: &SharedFrontier,
     forest: &Forest,
     passes: Row<FrontierPass>,
-    gate: &G,
 ) -> Row<FrontierPass>
     requires forest { forest.now ≡ shared.now.setting.forest }
     requires count { length passes ≤ 16 }
@@ -146,6 +144,6 @@ fn run_passes<G: Gate, R: Threads + Wait + Sync>(
 {
     let mut passes = passes.into_vec();
     let work = Refinement { shared, forest };
-    run_all(rt, &work, passes.as_mut_slice(), gate);
+    run_all(crew.rt, &work, passes.as_mut_slice(), crew.gate);
     Row::from_vec(passes)
 }

@@ -1,7 +1,6 @@
 //! The shared frontier.
 
 ghost use Rattle.std.specs.Prelude.{◌≡◌, ℕ, ◌+◌, ◌^◌, ◌<◌, ◌≤◌, IfOk, IsTrue, MatchBool, None, Some, length};
-ghost use Rattle.drt_effort.specs.Efforts.{most_budget};
 ghost use Rattle.drt_model.specs.Limits.{most_time};
 ghost use Rattle.drt_lock.specs.Seats.{IsAtWork, HoldsMachine};
 ghost use Rattle.drt_pool.specs.Turns.{EachPlace};
@@ -19,7 +18,8 @@ ghost use Rattle.drt_frontier_board.specs.Replies.{ForFrontierReply, IsReplyTo, 
 use crate::pass::FrontierPass;
 use crate::passes::{deal, gather};
 use atomic_table::Seat;
-use drt_frontier_board::{FrontierBoard, FrontierAnswer, Terms, is_number};
+use drt_effort::Effort;
+use drt_frontier_board::{FrontierAnswer, FrontierBoard, Terms, is_number};
 use drt_lock::{Kept, Lock, SeatView};
 use drt_model::{Memory, Row};
 use drt_refine::{Frontier, FrontierReply, FrontierStep, choose_place};
@@ -55,28 +55,27 @@ impl Model for SharedFrontier {
 }
 
 impl SharedFrontier {
-    /// A frontier in its opening state, and so many passes, numbered by their places. All room is taken here, so that no step takes
-    /// memory. The wcet and the deadline are in ticks, and the budget is how many steps the log may have.
+    /// A frontier in its opening state, and a pass for each worker, numbered by their places. All room is taken here, so that no step
+    /// takes memory. The wcet and the deadline are in ticks, and the effort's budget is how many steps the log may have.
     pub fn start(
         alloc: Global,
         forest: &Forest,
         roots: &[u32],
         wcet: u32,
         deadline: u32,
-        budget: u64,
-        passes: u32,
+        effort: Effort,
     ) -> Result<(SharedFrontier, Row<FrontierPass>), Memory>
         requires few { length roots.now ≤ 31 }
         requires roots { AreChosen deadline forest.now.pool roots.now }
         requires wcet { (1 ≤ wcet) × (wcet ≤ most_time) }
         requires deadline { (1 ≤ deadline) × (deadline ≤ most_time) }
-        requires budget { (1 ≤ budget) × (budget ≤ most_budget) }
-        requires passes { (1 ≤ passes) × (passes ≤ 16) }
-        ensures setting { IfOk result (λ r. r.0.setting ≡ record { forest = forest.now; roots = roots.now; wcet = wcet; deadline = deadline; budget = budget }) }
-        ensures count { IfOk result (λ r. (r.0.passes ≡ passes) × (length r.1 ≡ passes)) }
+        ensures setting { IfOk result (λ r. r.0.setting
+            ≡ record { forest = forest.now; roots = roots.now; wcet = wcet; deadline = deadline; budget = effort.budget }) }
+        ensures count { IfOk result (λ r. (r.0.passes ≡ effort.workers) × (length r.1 ≡ effort.workers)) }
         ensures passes { IfOk result (λ r. EachPlace (IsNewPass r.0) r.1) }
     {
-        let frontier = Frontier::start(alloc, forest, roots, wcet, deadline, budget)?;
+        let passes = effort.workers();
+        let frontier = Frontier::start(alloc, forest, roots, wcet, deadline, effort.budget())?;
         let terms = Terms::new(forest, &frontier);
         let board = FrontierBoard::new(forest, frontier);
         let (lock, mut owner) = Lock::new(alloc, board, Snapshot::of(&terms))?;

@@ -5,7 +5,7 @@ ghost use Rattle.drt_frontier_board.specs.FrontierBoard.{terms_of};
 ghost use Rattle.drt_refine.specs.Facts.{AreInPlace};
 
 use crate::frontier_driver::has_log;
-use drt_frontier_board::{FrontierBoard, FrontierAnswer, FrontierFound, is_copy};
+use drt_frontier_board::{FrontierAnswer, FrontierBoard, FrontierFound, is_copy};
 use drt_refine::{Frontier, FrontierReply, FrontierStep};
 use drt_steps::least_time;
 use drt_tree::Forest;

@@ -6,6 +6,8 @@ ghost use Rattle.drt_refine.specs.View.{IsFrontier};
 ghost use Rattle.drt_steps.specs.Time.{AreChosen};
 ghost use Rattle.drt_shared_frontier.specs.Passes.{IsPassOfFrontier};
 
+use drt_crew::Crew;
+use drt_effort::Effort;
 use drt_model::{Memory, Row};
 use drt_pool::Gate;
 use drt_refine::{CombinationState, Frontier, FrontierReply, FrontierStep};
@@ -22,71 +24,51 @@ const WCET: u32 = 2;
 // A turn: the place of the pass, the step that it makes, and the frontier's reply.
 pub(crate) type Play = (usize, FrontierStep, FrontierReply);
 
-// The shared frontier of one tree, and so many passes.
+// So many workers, and so many steps.
+pub(crate) fn make_effort(rt: &impl Abort, workers: u32, budget: u64) -> Effort {
+    assert!(rt; 1 <= workers && workers <= 16);
+    assert!(rt; 1 <= budget && budget <= 1000);
+    Effort::new(workers, budget)
+}
+
+// The shared frontier of one tree, and a pass for each worker.
 pub(crate) fn share(
     rt: &impl Abort,
     alloc: Global,
     forest: &Forest,
     root: u32,
     deadline: u32,
-    budget: u64,
-    passes: u32,
+    effort: Effort,
 ) -> Result<(SharedFrontier, Vec<FrontierPass>), Memory>
     ensures forest { IfOk result (λ r. forest.now ≡ r.0.setting.forest) }
     ensures count { IfOk result (λ r. length r.1.items ≡ r.0.passes) }
     ensures passes { IfOk result (λ r. EachPlace (λ place p. IsPassOfFrontier r.0 p) r.1.items) }
 {
-    check(rt, forest, root, deadline, budget);
-    assert!(rt; 1 <= passes && passes <= 16);
-    let (shared, passes) = SharedFrontier::start(
-        alloc,
-        forest,
-        &[root],
-        WCET,
-        deadline,
-        budget,
-        passes,
-    )?;
+    check(rt, forest, root, deadline);
+    let (shared, passes) = SharedFrontier::start(alloc, forest, &[root], WCET, deadline, effort)?;
     Ok((shared, passes.into_vec()))
 }
 
-// What so many workers find.
+// What a crew finds.
 pub(crate) fn work<G: Gate, R: Abort + Threads + Wait + Sync>(
-    rt: &R,
-    alloc: Global,
+    crew: &Crew<'_, G, R>,
     forest: &Forest,
     root: u32,
     deadline: u32,
-    budget: u64,
-    workers: u32,
-    gate: &G,
 ) -> Result<(Frontier, FrontierReply), Memory> {
-    check(rt, forest, root, deadline, budget);
-    assert!(rt; 1 <= workers && workers <= 16);
-    refine(
-        rt,
-        alloc,
-        forest,
-        &[root],
-        WCET,
-        deadline,
-        budget,
-        workers,
-        gate,
-    )
+    check(crew.rt, forest, root, deadline);
+    refine(crew, forest, &[root], WCET, deadline)
 }
 
 // Sees that these are the terms of a frontier over the forest.
-fn check(rt: &impl Abort, forest: &Forest, root: u32, deadline: u32, budget: u64)
+fn check(rt: &impl Abort, forest: &Forest, root: u32, deadline: u32)
     ensures roots { AreChosen deadline forest.now.pool (root ∷ []) }
     ensures deadline { (1 ≤ deadline) × (deadline ≤ 1000000) }
-    ensures budget { (1 ≤ budget) × (budget ≤ 1000000) }
 {
     let functions = forest.all();
     assert!(rt; (root as usize) < functions.len());
     assert!(rt; deadline as u64 <= functions[root as usize].bound());
     assert!(rt; 1 <= deadline && deadline <= 1000);
-    assert!(rt; 1 <= budget && budget <= 1000);
 }
 
 // A worker's turn: it takes a combination, or settles the one that its pass holds.

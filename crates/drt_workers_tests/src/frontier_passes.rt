@@ -3,7 +3,7 @@
 ghost use Rattle.std.specs.Prelude.{IfOk};
 ghost use Rattle.drt_refine.specs.View.{IsFrontier};
 
-use crate::frontier_driver::{Play, close, follow, has_log, have, share};
+use crate::frontier_driver::{Play, close, follow, has_log, have, make_effort, share};
 use drt_model::Memory;
 use drt_refine::{Frontier, FrontierReply, FrontierStep};
 use drt_tree::Forest;
@@ -41,15 +41,8 @@ fn play<R: Abort + Wait>(
 ) -> Result<(bool, Frontier), Memory>
     ensures { IfOk result (λ r. IsFrontier forest.now r.1) }
 {
-    let (shared, passes) = share(
-        rt,
-        alloc,
-        forest,
-        root,
-        case.deadline,
-        case.budget,
-        case.passes,
-    )?;
+    let effort = make_effort(rt, case.passes, case.budget);
+    let (shared, passes) = share(rt, alloc, forest, root, case.deadline, effort)?;
     let (followed, passes) = follow(rt, &shared, forest, passes, case.plays);
     let are_so = followed == case.plays.len() && have(&passes, case.counts, case.held);
     let frontier = close(shared, passes);

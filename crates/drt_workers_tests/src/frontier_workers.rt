@@ -1,6 +1,7 @@
 //! What workers find together, by one thread and by more.
 
-use crate::frontier_driver::{has_states, work};
+use crate::frontier_driver::{has_states, make_effort, work};
+use drt_crew::Crew;
 use drt_meeting::Meeting;
 use drt_pool::{EagerGate, Gate, OpenGate};
 use drt_refine::{CombinationState, FrontierReply};
@@ -29,7 +30,13 @@ fn settles<G: Gate, R: Abort + Threads + Wait + Sync>(
     gate: &G,
 ) -> Result<bool, Fail> {
     let (forest, root) = three_walks(alloc)?.ok_or("a tree")?;
-    let (frontier, reply) = work(rt, alloc, &forest, root, 5, 100, workers, gate)?;
+    let crew = Crew {
+        rt,
+        alloc,
+        effort: make_effort(rt, workers, 100),
+        gate,
+    };
+    let (frontier, reply) = work(&crew, &forest, root, 5)?;
     Ok(reply == FrontierReply::Finished && has_states(&frontier, &SETTLED))
 }
 
@@ -52,7 +59,13 @@ fn ends<R: Abort + Threads + Wait + Sync>(
     wanted: FrontierReply,
 ) -> Result<bool, Fail> {
     let (forest, root) = two_walks(alloc)?.ok_or("a tree")?;
-    let (frontier, reply) = work(rt, alloc, &forest, root, 4, budget, 1, &OpenGate)?;
+    let crew = Crew {
+        rt,
+        alloc,
+        effort: make_effort(rt, 1, budget),
+        gate: &OpenGate,
+    };
+    let (frontier, reply) = work(&crew, &forest, root, 4)?;
     Ok(reply == wanted && frontier.log().len() as u64 == budget)
 }
 

@@ -40,6 +40,14 @@ const TURNS: [(usize, TableReply); 18] = [
     (0, TableReply::Finished),
 ];
 
+// A search of a graph by the passes of one shared table.
+#[derive(Clone, Copy)]
+struct SharedSearch<'a> {
+    alloc: Global,
+    graph: &'a Graph,
+    shared: &'a SharedTable<DemandLabel>,
+}
+
 // The graph of RETURNING.
 fn make_graph(alloc: Global) -> Result<Graph, Fail> {
     let set = make_set(alloc, &[RETURNING])?.ok_or("within the limits")?;
@@ -62,53 +70,58 @@ fn start_table(
     Ok((graph, shared, passes))
 }
 
+// What follows a turn with this reply.
+fn turn_after(reply: SharedReply) -> Turn {
+    match reply {
+        SharedReply::Step(TableReply::Finished) => Turn::Stop,
+        SharedReply::Step(_) => Turn::More,
+        SharedReply::Halted => Turn::Stop,
+        SharedReply::Strange(_) => Turn::Stop,
+    }
+}
+
 // Makes the turn of a worker, and says whether it has that reply, and is the worker's last only where it should be.
 fn has_reply<R: Wait>(
     rt: &R,
-    alloc: Global,
-    graph: &Graph,
-    shared: &SharedTable<DemandLabel>,
+    search: &SharedSearch<'_>,
     passes: &mut [Pass<DemandLabel>],
     worker: usize,
     wanted: SharedReply,
-    turn: Turn,
 ) -> bool
-    requires graph { graph.now ≡ shared.now.setting.graph }
-    requires passes { EachPlace (λ place p. IsPassOf demand_algebra shared.now p) passes.old }
+    requires graph { search.now.graph.now ≡ search.now.shared.now.setting.graph }
+    requires passes { EachPlace (λ place p. IsPassOf demand_algebra search.now.shared.now p) passes.old }
     ensures count { length passes.new ≡ length passes.old }
-    ensures passes { EachPlace (λ place p. IsPassOf demand_algebra shared.now p) passes.new }
+    ensures passes { EachPlace (λ place p. IsPassOf demand_algebra search.now.shared.now p) passes.new }
 {
     if worker >= passes.len() {
         return false;
     }
-    let turned = take_turn(rt, alloc, graph, shared, &mut passes[worker]);
-    turned.reply == Some(wanted) && turned.turn == turn
+    let turned = take_turn(
+        rt,
+        search.alloc,
+        search.graph,
+        search.shared,
+        &mut passes[worker],
+    );
+    turned.reply == Some(wanted) && turned.turn == turn_after(wanted)
 }
 
 // Makes the turns of these workers one after another, and says whether each has its reply.
 fn have_replies<R: Wait>(
     rt: &R,
-    alloc: Global,
-    graph: &Graph,
-    shared: &SharedTable<DemandLabel>,
+    search: &SharedSearch<'_>,
     passes: &mut [Pass<DemandLabel>],
     turns: &[(usize, TableReply)],
 ) -> bool
-    requires graph { graph.now ≡ shared.now.setting.graph }
-    requires passes { EachPlace (λ place p. IsPassOf demand_algebra shared.now p) passes.old }
+    requires graph { search.now.graph.now ≡ search.now.shared.now.setting.graph }
+    requires passes { EachPlace (λ place p. IsPassOf demand_algebra search.now.shared.now p) passes.old }
     ensures count { length passes.new ≡ length passes.old }
-    ensures passes { EachPlace (λ place p. IsPassOf demand_algebra shared.now p) passes.new }
+    ensures passes { EachPlace (λ place p. IsPassOf demand_algebra search.now.shared.now p) passes.new }
 {
     let mut are_so = true;
     'turns: for i in 0..turns.len() {
         let (worker, reply) = turns[i];
-        let turn = if reply == TableReply::Finished {
-            Turn::Stop
-        } else {
-            Turn::More
-        };
-        let wanted = SharedReply::Step(reply);
-        let is_so = has_reply(rt, alloc, graph, shared, passes, worker, wanted, turn);
+        let is_so = has_reply(rt, search, passes, worker, SharedReply::Step(reply));
         are_so = are_so && is_so;
     }
     are_so
@@ -117,19 +130,17 @@ fn have_replies<R: Wait>(
 // Makes the turns of these workers one after another, and says whether each has its reply, with the passes.
 fn play<R: Wait>(
     rt: &R,
-    alloc: Global,
-    graph: &Graph,
-    shared: &SharedTable<DemandLabel>,
+    search: &SharedSearch<'_>,
     passes: Row<Pass<DemandLabel>>,
     turns: &[(usize, TableReply)],
 ) -> (bool, Row<Pass<DemandLabel>>)
-    requires graph { graph.now ≡ shared.now.setting.graph }
-    requires passes { EachPlace (λ place p. IsPassOf demand_algebra shared.now p) passes }
+    requires graph { search.now.graph.now ≡ search.now.shared.now.setting.graph }
+    requires passes { EachPlace (λ place p. IsPassOf demand_algebra search.now.shared.now p) passes }
     ensures count { length result.1 ≡ length passes }
-    ensures passes { EachPlace (λ place p. IsPassOf demand_algebra shared.now p) result.1 }
+    ensures passes { EachPlace (λ place p. IsPassOf demand_algebra search.now.shared.now p) result.1 }
 {
     let mut passes = passes.into_vec();
-    let are_so = have_replies(rt, alloc, graph, shared, passes.as_mut_slice(), turns);
+    let are_so = have_replies(rt, search, passes.as_mut_slice(), turns);
     (are_so, Row::from_vec(passes))
 }
 
@@ -168,7 +179,12 @@ fn are_kept_but(table: &Table<DemandLabel>, count: usize, dropped: &[(usize, u32
 // Whether three workers' turns have their replies, and the table then is what it is to be.
 fn is_stepped<R: Wait>(rt: &R, alloc: Global) -> Result<bool, Fail> {
     let (graph, shared, passes) = start_table(alloc, 3)?;
-    let (are_so, passes) = play(rt, alloc, &graph, &shared, passes, &TURNS);
+    let search = SharedSearch {
+        alloc,
+        graph: &graph,
+        shared: &shared,
+    };
+    let (are_so, passes) = play(rt, &search, passes, &TURNS);
     let are_counted = have_counts(passes.as_slice(), &[6, 6, 3]);
     let end = shared.finish(passes);
     let is_ended = !end.halted && end.table.finished() && end.table.log().len() == 15;
@@ -201,72 +217,44 @@ fn halt_by(shared: &SharedTable<DemandLabel>, passes: &mut [Pass<DemandLabel>], 
 }
 
 // Worker 0 takes a node of the table, and worker 1 halts the search: whether each worker's next turn finds the mark and is its last.
-fn halted<R: Wait>(
-    rt: &R,
-    alloc: Global,
-    graph: &Graph,
-    shared: &SharedTable<DemandLabel>,
-    passes: &mut [Pass<DemandLabel>],
-) -> bool
-    requires graph { graph.now ≡ shared.now.setting.graph }
-    requires passes { EachPlace (λ place p. IsPassOf demand_algebra shared.now p) passes.old }
+fn halted<R: Wait>(rt: &R, search: &SharedSearch<'_>, passes: &mut [Pass<DemandLabel>]) -> bool
+    requires graph { search.now.graph.now ≡ search.now.shared.now.setting.graph }
+    requires passes { EachPlace (λ place p. IsPassOf demand_algebra search.now.shared.now p) passes.old }
     ensures count { length passes.new ≡ length passes.old }
-    ensures passes { EachPlace (λ place p. IsPassOf demand_algebra shared.now p) passes.new }
+    ensures passes { EachPlace (λ place p. IsPassOf demand_algebra search.now.shared.now p) passes.new }
 {
-    let taken = have_replies(
-        rt,
-        alloc,
-        graph,
-        shared,
-        passes,
-        &[(0, TableReply::Taken(0))],
-    );
-    halt_by(shared, passes, 1);
-    let first = has_reply(
-        rt,
-        alloc,
-        graph,
-        shared,
-        passes,
-        0,
-        SharedReply::Halted,
-        Turn::Stop,
-    );
-    let second = has_reply(
-        rt,
-        alloc,
-        graph,
-        shared,
-        passes,
-        1,
-        SharedReply::Halted,
-        Turn::Stop,
-    );
+    let taken = have_replies(rt, search, passes, &[(0, TableReply::Taken(0))]);
+    halt_by(search.shared, passes, 1);
+    let first = has_reply(rt, search, passes, 0, SharedReply::Halted);
+    let second = has_reply(rt, search, passes, 1, SharedReply::Halted);
     taken && first && second
 }
 
 // The same, with the passes.
 fn play_halted<R: Wait>(
     rt: &R,
-    alloc: Global,
-    graph: &Graph,
-    shared: &SharedTable<DemandLabel>,
+    search: &SharedSearch<'_>,
     passes: Row<Pass<DemandLabel>>,
 ) -> (bool, Row<Pass<DemandLabel>>)
-    requires graph { graph.now ≡ shared.now.setting.graph }
-    requires passes { EachPlace (λ place p. IsPassOf demand_algebra shared.now p) passes }
+    requires graph { search.now.graph.now ≡ search.now.shared.now.setting.graph }
+    requires passes { EachPlace (λ place p. IsPassOf demand_algebra search.now.shared.now p) passes }
     ensures count { length result.1 ≡ length passes }
-    ensures passes { EachPlace (λ place p. IsPassOf demand_algebra shared.now p) result.1 }
+    ensures passes { EachPlace (λ place p. IsPassOf demand_algebra search.now.shared.now p) result.1 }
 {
     let mut passes = passes.into_vec();
-    let are_halted = halted(rt, alloc, graph, shared, passes.as_mut_slice());
+    let are_halted = halted(rt, search, passes.as_mut_slice());
     (are_halted, Row::from_vec(passes))
 }
 
 // Whether a halted search makes no more steps than one take.
 fn is_halted<R: Wait>(rt: &R, alloc: Global) -> Result<bool, Fail> {
     let (graph, shared, passes) = start_table(alloc, 2)?;
-    let (are_halted, passes) = play_halted(rt, alloc, &graph, &shared, passes);
+    let search = SharedSearch {
+        alloc,
+        graph: &graph,
+        shared: &shared,
+    };
+    let (are_halted, passes) = play_halted(rt, &search, passes);
     let end = shared.finish(passes);
     Ok(are_halted && end.halted && end.table.log().len() == 1)
 }
@@ -294,7 +282,12 @@ fn a_halted_search_ends_as_want_of_memory(rt: HostRuntime) -> Result<(), Fail> {
 // Whether a table that three workers left after seven turns is driven to its end.
 fn is_driven<R: Wait>(rt: &R, alloc: Global) -> Result<bool, Fail> {
     let (graph, shared, passes) = start_table(alloc, 3)?;
-    let (are_so, passes) = play(rt, alloc, &graph, &shared, passes, &TURNS[..7]);
+    let search = SharedSearch {
+        alloc,
+        graph: &graph,
+        shared: &shared,
+    };
+    let (are_so, passes) = play(rt, &search, passes, &TURNS[..7]);
     let (table, reply) = drive_on(alloc, shared, passes)?;
     let is_ended = reply == TableReply::Finished && table.log().len() == 15;
     Ok(are_so && is_ended && are_kept_but(&table, 6, &[(3, 4)]))

@@ -12,8 +12,8 @@ use crate::plan::{Plan, make_plan};
 use crate::subject::Subject;
 use atomic_table::Seat;
 use drt_model::Row;
-use drt_tree::Forest;
 use drt_rising_word::{Meaning, View, Word};
+use drt_tree::Forest;
 use std::alloc::{AllocError as Memory, Global};
 use std::snapshot::Snapshot;
 

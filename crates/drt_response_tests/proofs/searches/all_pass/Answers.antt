@@ -12,7 +12,7 @@ pub returns-in-Finished : goal.returns-in-Finished
 returns-in-Finished g c answers tuple below =
     let f = c.args.forest.now in
     let v = c.in_ok-_frontier._frontier in
-    let t : FrontierSetting = record { forest = f; roots = c.args.roots.now; wcet = c.args.wcet; deadline = c.args.deadline; budget = 1000 } in
+    let t : FrontierSetting = record { forest = f; roots = c.args.roots.now; wcet = c.args.wcet; deadline = c.args.deadline; budget = c.with-one.result.effort.budget } in
     let s : FrontierSetting = setting_of f v in
     let same : s ≡ t = c.in_ok-_frontier.ensures.setting in
     let front = c.in_ok-_frontier.ensures.frontier in

@@ -7,5 +7,5 @@ use Rattle.drt_workers_tests.proofs.turn_tests.have_replies.Given as goal
 abbrev pub invariant-turns : goal.invariant-turns
 invariant-turns g l = record {
   count : length l.passes ≡ length l.initial.passes;
-  passes : EachPlace (λ place p. IsPassOf demand_algebra l.shared p) l.passes;
+  passes : EachPlace (λ place p. IsPassOf demand_algebra l.search.shared.now p) l.passes;
 }
