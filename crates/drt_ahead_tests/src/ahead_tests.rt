@@ -1,9 +1,9 @@
 use drt_ahead::{look_ahead, take_found};
 use drt_crew::Crew;
 use drt_effort::Effort;
-use drt_meeting::Meeting;
 use drt_model::Memory;
 use drt_pool::{EagerGate, Gate};
+use drt_test_tools::Meeting;
 use std::alloc::Global;
 use std::test::Fail;
 use std::thread::Threads;

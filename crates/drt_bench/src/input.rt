@@ -1,8 +1,8 @@
 //! What the subjects share: the numbers among the program's arguments, and rings with chords.
 ghost use Rattle.std.specs.Prelude.{◌+◌, ◌≤◌};
 
-use drt_drawn::Draws;
 use drt_model::{Edge, Name, Row, Task, Vertex};
+use drt_test_tools::Draws;
 use std::alloc::{AllocError, Global};
 
 /// The number that an argument is, or the other number.

@@ -6,11 +6,11 @@
 ghost use Rattle.std.specs.Prelude.{◌<◌, ◌≤◌};
 
 use crate::input::number;
-use drt_drawn::Draws;
 use drt_graph::check;
 use drt_model::{Edge, Name, Row, Task, Vertex, task_set};
 use drt_num::Ratio;
 use drt_ratio::greatest;
+use drt_test_tools::Draws;
 use std::alloc::{AllocError, Global};
 use std::env::Args;
 

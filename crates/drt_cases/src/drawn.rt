@@ -1,9 +1,9 @@
 //! Drawn sets: small ones, answered by one worker and by four that are begun at once, and one that `bench` draws.
 use crate::running::{answer_to, write_for};
-use drt_drawn::{Draws, drawn_set};
 use drt_gen::generate;
 use drt_model::Row;
 use drt_pool::{EagerGate, OpenGate};
+use drt_test_tools::{Draws, drawn_set};
 use std::alloc::Global;
 use std::sync::Wait;
 use std::test::Fail;

@@ -5,8 +5,8 @@ use drt_fixtures::texts::{
     LOWER_FIRST, OVERLOADED, PERIODIC, SEVENTHS_ABOVE_FIFTHS, SPLIT, TIGHT, TOO_FAR, TOO_FINE,
     TOO_LITTLE_ROOM,
 };
-use drt_meeting::Meeting;
 use drt_pool::EagerGate;
+use drt_test_tools::Meeting;
 use std::alloc::Global;
 use std::sync::Wait;
 use std::test::Fail;

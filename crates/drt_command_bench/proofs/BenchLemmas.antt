@@ -22,7 +22,7 @@ use Rattle.drt_edf.specs.Plans.{AreTooFine, IsTooFar}
 use Rattle.drt_edf.specs.Walks.{IsExactFront}
 use Rattle.drt_sp.specs.Answers as fixed_answers
 use Rattle.drt_gen.specs.Generated.{generated}
-use Rattle.drt_gen_scale.specs.Scales.{AreAllSmall}
+use Rattle.drt_command_bench.specs.Scales.{AreAllSmall}
 use Rattle.drt_summary.specs.declared.summary.EdfVerdict.{EdfVerdict}
 use Rattle.drt_summary.specs.declared.summary.EdfVerdict.TheVariants as on_edf
 use Rattle.drt_summary.specs.declared.summary.FixedVerdict.{FixedVerdict}

@@ -1,1 +1,4 @@
+mod SimpleCycles
+mod Periods
+mod Drawn
 pub mod BenchLemmas

@@ -14,6 +14,7 @@ ghost use Rattle.drt_command.specs.Rules.{IsUnmadeCause};
 ghost use Rattle.drt_command.specs.Runs.{IsRun};
 ghost use Rattle.drt_command_bench.specs.Bench.{AreCounts, Benches, EdfSays, FixedSays, bench_rules};
 
+use crate::laws::scales_are_small;
 use drt_accepted::Accepted;
 use drt_claims::Evidence;
 use drt_command::{Input, Promised, Report, Unmade, finish, read_input, stop_reading};
@@ -21,7 +22,6 @@ use drt_crew::Crew;
 use drt_edf::{EdfAnswer, EdfTrail, analyse_edf};
 use drt_effort::{Effort, MOST_BUDGET};
 use drt_gen::{deadlines_are_constrained, generate, sets_keep_limits};
-use drt_gen_scale::scales_are_small;
 use drt_graph::{FrontEntry, GraphError, Graphs, check};
 use drt_horizon::Beyond;
 use drt_io::{Sink, Source};

@@ -4,7 +4,7 @@ use drt_edf::{EdfAnswer, analyse_edf};
 use drt_effort::Effort;
 use drt_fixtures::{Shape, make_set};
 use drt_graph::check;
-use drt_meeting::Meeting;
+use drt_test_tools::Meeting;
 use std::alloc::Global;
 use std::sync::Wait;
 use std::test::Fail;

@@ -1,11 +1,11 @@
 //! Fronts by hand, and fronts of drawn tasks.
 ghost use Rattle.std.specs.Prelude.{◌≤◌};
 
-use drt_drawn::{Draws, drawn_set};
 use drt_fixtures::shapes::RETURNING;
 use drt_fixtures::{Shape, make_set};
 use drt_graph::{FrontEntry, check};
 use drt_merge::{Patience, merged_front};
+use drt_test_tools::{Draws, drawn_set};
 use std::alloc::Global;
 use std::test::Fail;
 

@@ -3,8 +3,8 @@
 use crate::answers::FirstIsLate;
 use crate::searches::{Terms, is_reached, is_spent, is_spent_from, search};
 use drt_pool::{EagerGate, OpenGate};
+use drt_test_tools::{even_walks, three_walks, twelve_walks};
 use drt_tree::Forest;
-use drt_worked_forests::{even_walks, three_walks, twelve_walks};
 use std::alloc::Global;
 use std::sync::Wait;
 use std::test::Fail;

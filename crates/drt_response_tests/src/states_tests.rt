@@ -3,14 +3,13 @@
 use crate::answers::{Ticks, answer_of, end_before_finish, have_ticks, is_answer};
 use drt_accepted::Accepted;
 use drt_crew::Crew;
-use drt_drawn::{Draws, drawn_set};
 use drt_effort::Effort;
 use drt_fixtures::{Shape, make_set};
 use drt_graph::check;
-use drt_meeting::Meeting;
 use drt_model::{Row, TaskSet};
 use drt_pool::{EagerGate, Gate};
 use drt_response::{Answer, Response, respond_by_states};
+use drt_test_tools::{Draws, Meeting, drawn_set};
 use std::alloc::Global;
 use std::sync::Wait;
 use std::test::Fail;

@@ -3,7 +3,7 @@ use crate::answering::{Leaving, Source, effort_of, written};
 use crate::parts_tests::{ALL_PASS, SECOND_FAILS};
 use crate::table_tests::TWO_TABLES;
 use drt_crew::Crew;
-use drt_meeting::Meeting;
+use drt_test_tools::Meeting;
 use std::alloc::Global;
 use std::sync::Wait;
 use std::test::Fail;

@@ -2,10 +2,9 @@
 
 use crate::frontier_driver::{has_states, make_effort, work};
 use drt_crew::Crew;
-use drt_meeting::Meeting;
 use drt_pool::{EagerGate, Gate, OpenGate};
 use drt_refine::{CombinationState, FrontierReply};
-use drt_worked_forests::{three_walks, two_walks};
+use drt_test_tools::{Meeting, three_walks, two_walks};
 use std::alloc::Global;
 use std::process::Abort;
 use std::sync::Wait;

@@ -2,8 +2,8 @@
 
 ghost use Rattle.std.specs.Prelude.{◌≡◌, ℕ};
 
-use drt_meeting::Meeting;
 use drt_pool::{Gate, OpenGate, Turn, Work, run_all};
+use drt_test_tools::Meeting;
 use std::sync::Wait;
 use std::sync::atomic::{AtomicBool, AtomicU64, Ordering};
 

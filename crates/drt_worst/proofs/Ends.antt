@@ -3,7 +3,7 @@ use Rattle.std.proofs.Common.{◌≡◌, ◌≢◌, ℕ, suc, zero, ◌+◌, ◌
 use Rattle.std.specs.Prelude.{slice_get, slice_index_or, reverse, Option, None, option_map, IfSome, IsSome}
 use Rattle.std.proofs.lemmas.Bool.{cases_lt}
 use Rattle.std.proofs.lemmas.List.{length-reverse}
-use Rattle.drt_rising_word.specs.Closing.{WordOf}
+use Rattle.drt_worst.specs.Closing.{WordOf}
 use Rattle.drt_worst.specs.Gathering.{IsGathered}
 use Rattle.drt_worst.specs.declared.pass.Question.{Question}
 use Rattle.std.proofs.lemmas.Option.{none-some, same_Some, slice_get_within, get_or_from_slice_get}
@@ -14,10 +14,10 @@ use Rattle.drt_worst.specs.Spent.{IsSpent}
 use Rattle.drt_worst.proofs.Below.{part_more, below_parts}
 use Rattle.drt_worst.proofs.Runs.{greatest, some_reached}
 use Rattle.drt_worst.proofs.Different.{spent}
-use Rattle.drt_rising_word.specs.Rising.{IsInList, joined_views}
-use Rattle.drt_rising_word.specs.Closing.{IsWordClosed}
-use Rattle.drt_rising_word.proofs.Steps.{each_in, each_join, each_weaker, in_left, in_right}
-use Rattle.drt_rising_word.specs.declared.view.View.{View}
+use Rattle.drt_worst.specs.Rising.{IsInList, joined_views}
+use Rattle.drt_worst.specs.Closing.{IsWordClosed}
+use Rattle.drt_worst.proofs.Steps.{each_in, each_join, each_weaker, in_left, in_right}
+use Rattle.drt_worst.specs.declared.view.View.{View}
 use Rattle.drt_worst.specs.Passing.{search_of_question, IsNotedIn, IsGreatestRaised, HasRun, IsSearchReady}
 use Rattle.drt_pool.specs.Turns.{EachPlace}
 use Rattle.drt_worst.specs.declared.pass.Pass.{Pass}

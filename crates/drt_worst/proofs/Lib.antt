@@ -1,3 +1,4 @@
+pub mod Steps
 mod Least
 pub mod Below
 mod Runs

@@ -7,9 +7,9 @@ use Rattle.drt_worst.specs.Splitting.{Search, AreParts, IsPart, IsReached, Passe
 use Rattle.drt_worst.specs.Runs.{Choice, skips, reaches, splits, PassEntry, combination_of, known, left_after, stack_after, known_after, IsFit, IsRunFrom}
 use Rattle.drt_worst.proofs.Below.{below_part, concrete_below}
 use Rattle.drt_worst.proofs.Runs.{parts_left, run_more}
-use Rattle.drt_rising_word.specs.Rising.{HoldsOfEach, with_noted}
-use Rattle.drt_rising_word.proofs.Steps.{each_in, each_weaker}
-use Rattle.drt_rising_word.specs.declared.view.View.{View}
+use Rattle.drt_worst.specs.Rising.{HoldsOfEach, with_noted}
+use Rattle.drt_worst.proofs.Steps.{each_in, each_weaker}
+use Rattle.drt_worst.specs.declared.view.View.{View}
 use Rattle.drt_worst.specs.Plans.{CanTake}
 use Rattle.drt_worst.specs.Passing.{announced, best_after, leaves_after, IsNotedIn, IsGreatestRaised, HasRunWith, HasRun, IsSearchReady}
 use Rattle.drt_worst.specs.declared.pass.Pass.{Pass}

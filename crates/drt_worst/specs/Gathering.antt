@@ -1,8 +1,8 @@
 -- While passes are opened and taken in.
 use Rattle.std.specs.Prelude.{◌≡◌, ℕ, ◌+◌, List, ◌++◌, length, Some, slice_get}
 use Rattle.drt_lock.specs.Rule.{all_parts}
-use Rattle.drt_rising_word.specs.declared.view.View.{View}
-use Rattle.drt_rising_word.specs.Closing.{WordOf}
+use Rattle.drt_worst.specs.declared.view.View.{View}
+use Rattle.drt_worst.specs.Closing.{WordOf}
 use Rattle.drt_worst.specs.Passing.{search_of_question, IsGreatestRaised, IsNotedIn}
 use Rattle.drt_worst.specs.declared.pass.Pass.{Pass}
 use Rattle.drt_worst.specs.declared.pass.Question.{Question}

@@ -4,7 +4,7 @@ use Rattle.drt_worst.specs.Splitting.{Search}
 use Rattle.drt_worst.specs.Subjects.{search_over}
 use Rattle.drt_worst.specs.Passing.{search_of_question, IsSeatOf, HasRun, IsSearchReady}
 use Rattle.drt_worst.specs.declared.pass.Pass.{Pass}
-use Rattle.drt_rising_word.specs.Closing.{WordOf}
+use Rattle.drt_worst.specs.Closing.{WordOf}
 use Rattle.drt_worst.specs.declared.pass.Question.{Question}
 use Rattle.drt_worst.specs.declared.turn.SearchJob.{SearchJob}
 

@@ -1,3 +1,5 @@
+pub mod Rising
+pub mod Closing
 pub mod Splitting
 pub mod Runs
 pub mod Spent

@@ -6,8 +6,8 @@ use Rattle.drt_tree.specs.Tree.{IsForest}
 use Rattle.drt_refine.specs.Below.{AreBelow}
 use Rattle.drt_worst.specs.Splitting.{Search, IsPart, IsReached, PassesFor}
 use Rattle.drt_worst.specs.Runs.{Choice, skips, reaches, splits, PassEntry, combination_of, stack_after, known_after, IsRunFrom}
-use Rattle.drt_rising_word.specs.Rising.{HoldsOfEach, IsInList, with_raised}
-use Rattle.drt_rising_word.specs.declared.view.View.{View}
+use Rattle.drt_worst.specs.Rising.{HoldsOfEach, IsInList, with_raised}
+use Rattle.drt_worst.specs.declared.view.View.{View}
 use Rattle.drt_worst.specs.Splitting.{search_for}
 use Rattle.drt_worst.specs.Plans.{CanTake}
 use Rattle.drt_worst.specs.declared.pass.Question.{Question}

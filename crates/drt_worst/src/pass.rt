@@ -3,16 +3,18 @@ ghost use Rattle.std.specs.Prelude.{◌≡◌, ◌≢◌, ℕ, ◌++◌, ◌+◌
 ghost use Rattle.std.specs.Result.{OnOk};
 ghost use Rattle.drt_worst.specs.Splitting.{IsReached};
 ghost use Rattle.drt_worst.specs.Runs.{known, left_after, reaches};
-ghost use Rattle.drt_rising_word.specs.Rising.{with_raised};
+ghost use Rattle.drt_worst.specs.Rising.{with_raised};
 ghost use Rattle.drt_worst.specs.Subjects.{search_over};
 ghost use Rattle.drt_worst.specs.Plans.{choice_of};
 ghost use Rattle.drt_worst.specs.Passing.{search_of_question, announced, best_after, leaves_after, IsSeatOf, HasRun, HasRunWith, IsSearchReady};
 
 use crate::plan::{Plan, make_plan};
+use crate::rule::Meaning;
 use crate::subject::Subject;
+use crate::view::View;
+use crate::word::Word;
 use atomic_table::Seat;
 use drt_model::Row;
-use drt_rising_word::{Meaning, View, Word};
 use drt_tree::Forest;
 use std::alloc::{AllocError as Memory, Global};
 use std::snapshot::Snapshot;

@@ -5,9 +5,9 @@ ghost use Rattle.drt_worst.specs.Jobs.{IsPassOfJob, IsStopped};
 
 use crate::pass::{Pass, Question, take};
 use crate::subject::Subject;
+use crate::word::Word;
 use drt_model::Row;
 use drt_pool::{Turn, Work};
-use drt_rising_word::Word;
 use std::alloc::Global;
 use std::snapshot::Snapshot;
 use std::sync::Wait;

@@ -1,5 +1,5 @@
 use Rattle.std.proofs.Common.{rules, sym, ap, subst}
-use Rattle.drt_rising_word.specs.declared.view.View.{View}
+use Rattle.drt_worst.specs.declared.view.View.{View}
 use Rattle.drt_worst.specs.Passing.{search_of_question, IsGreatestRaised, IsNotedIn}
 use Rattle.drt_worst.proofs.Ends.{noted_left, noted_right, best_left, best_right}
 use Rattle.drt_worst.proofs.search.absorb.Goals as goal

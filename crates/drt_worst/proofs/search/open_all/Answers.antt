@@ -1,8 +1,8 @@
 use Rattle.std.proofs.Common.{rules, ◌≡◌, ℕ, ◌+◌, ◌-◌, List, Some, length, sym, ap, ◌∙◌, subst, arith}
 use Rattle.std.specs.Prelude.{slice_get}
 use Rattle.std.proofs.lemmas.Option.{slice_get-get_or}
-use Rattle.drt_rising_word.specs.Rising.{fresh_view, split_left}
-use Rattle.drt_rising_word.specs.declared.view.View.{View}
+use Rattle.drt_worst.specs.Rising.{fresh_view, split_left}
+use Rattle.drt_worst.specs.declared.view.View.{View}
 use Rattle.drt_worst.specs.Passing.{search_of_question}
 use Rattle.drt_pool.specs.Turns.{EachPlace}
 use Rattle.drt_worst.specs.Jobs.{IsPassOpened}

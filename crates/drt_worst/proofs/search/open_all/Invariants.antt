@@ -1,5 +1,5 @@
 use Rattle.std.proofs.Common.{◌≡◌, ◌-◌, length}
-use Rattle.drt_rising_word.specs.Rising.{fresh_view}
+use Rattle.drt_worst.specs.Rising.{fresh_view}
 use Rattle.drt_pool.specs.Turns.{EachPlace}
 use Rattle.drt_worst.specs.Jobs.{IsPassOpened}
 use Rattle.drt_worst.proofs.search.open_all.Given as goal

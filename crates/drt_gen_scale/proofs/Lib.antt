@@ -1,3 +1,0 @@
-mod SimpleCycles
-mod Periods
-mod Drawn

@@ -1,5 +1,0 @@
-use Rattle.drt_rising_word.proofs.Steps.{opens}
-use Rattle.drt_rising_word.proofs.word.Word.new.Goals as goal
-
-pub of_words-requires : goal.of_words-requires
-of_words-requires g c = opens _
