@@ -401,7 +401,7 @@ fn line_of_kind(
     s: &State,
     words: &[&[u8]],
 ) -> Result<Line, ClassicError>
-    ensures { GivesClassic result (unless n (classic_kind_fault classic_kind s.now (map (λ w. w.now) words.now)) (classic_said_by classic_kind (map (λ w. w.now) words.now))) }
+    ensures { GivesClassic result (unless n (classic_kind_fault kind s.now (map (λ w. w.now) words.now)) (classic_said_by kind (map (λ w. w.now) words.now))) }
 {
     match kind {
         Kind::Sporadic => sporadic_line(alloc, n, s, words),

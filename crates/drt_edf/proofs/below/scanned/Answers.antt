@@ -22,7 +22,7 @@ claims_of-requires c = given_small (graphs_of c.args.set.now.tasks) c.args.proof
 
 pub returns-in_ok-claims_of-in-None-clause-done : goal.returns-in_ok-claims_of-in-None-clause-done
 returns-in_ok-claims_of-in-None-clause-done c =
-    let kept = subst AreGraphs c.graphs-graphs.ensures.graphs c.keep_limits.ensures in
+    let kept = subst AreGraphs c.graphs-graphs.ensures.graphs c.keep_limits-2.ensures in
     let none = subst (λ o. IsLeastExcess c.graphs-graphs.result.now c.as_slice.result.now c.args.bound o) c.in-None.is c.in_ok-scan.ensures in
     let at = subst (λ fs. IsLeastExcess c.graphs-graphs.result.now fs c.args.bound None) c.as_slice.ensures none in
     let room = subst (λ gs. IsLeastExcess gs c.args.fronts c.args.bound None) c.graphs-graphs.ensures.graphs at in
@@ -33,7 +33,7 @@ returns-in_ok-claims_of-in-None-clause-done c =
 pub returns-in_ok-claims_of-in-None-clause-range : goal.returns-in_ok-claims_of-in-None-clause-range
 returns-in_ok-claims_of-in-None-clause-range c =
     let graphs = graphs_of c.args.set.now.tasks in
-    let kept = subst AreGraphs c.graphs-graphs.ensures.graphs c.keep_limits.ensures in
+    let kept = subst AreGraphs c.graphs-graphs.ensures.graphs c.keep_limits-2.ensures in
     let near = plan_near graphs c.args.proofs c.args.bound c.requires.plan in
     let range = yes_in_range graphs c.args.proofs c.args.bound c.args.fronts kept c.requires.given near c.requires.fronts c.requires.counted in
     subst (λ x. IsEvidenceInRange (EdfYes x c.args.fronts)) (sym c.in_ok-claims_of-in-None.ensures) range

@@ -40,7 +40,7 @@ pub start-requires-clause-times : goal.start-requires-clause-times
 start-requires-clause-times c =
     let tasks = c.args.set.now.tasks in
     let same : c.as_slice.result.now ≡ all_releases tasks (walk_at c.args.walks.now) (length tasks) = c.as_slice.ensures.value ∙ c.in_ok-releases.ensures tasks c.graphs-graphs.ensures.graphs in
-    let kept = rw c.graphs-graphs.ensures.graphs at c.keep_limits.ensures in
+    let kept = rw c.graphs-graphs.ensures.graphs at c.keep_limits-2.ensures in
     let each = c.releases_are_in_range.ensures tasks (walk_at c.args.walks.now) c.args.t kept c.requires.walks c.requires.due c.requires.time in
     rw same (All-weaker IsInRangeRelease (λ r. r.time ≤ 1000000000000000000) (λ r is. is.time) (all_releases tasks (walk_at c.args.walks.now) (length tasks)) each)
 
@@ -76,7 +76,7 @@ returns-clause-range c =
     let is : c.run_until.new.self ≡ record { policy = Edf; jobs = jobs_of tasks releases; ticks = c.args.t } =
     ran c.set.result.now tasks c.as_slice.result.now releases c.args.t c.in_ok-board.board c.run_until.new.self given c.as_slice.ensures.value c.in_ok-board.ensures c.run_until.ensures in
     let same = c.in_ok-releases.ensures tasks c.graphs-graphs.ensures.graphs in
-    let kept = rw c.graphs-graphs.ensures.graphs at c.keep_limits.ensures in
+    let kept = rw c.graphs-graphs.ensures.graphs at c.keep_limits-2.ensures in
     let all = c.releases_are_in_range.ensures tasks (walk_at c.args.walks.now) c.args.t kept c.requires.walks c.requires.due c.requires.time in
     let each : All IsInRangeRelease releases = rw same all in
     let counted : length releases ≤ 4294967295 = omega (arith, c.if-len-gt4294967295.false, c.len.ensures) in
