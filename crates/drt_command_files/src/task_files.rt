@@ -10,7 +10,7 @@ ghost use Rattle.drt_command_files.specs.TaskFiles.{IsAccepted, IsFileFault, fil
 use drt_command::{Input, Unmade};
 use drt_file::{FileError, FileFault};
 use drt_graph::{GraphError, Graphs};
-use drt_model::{Memory, Name, TaskSet};
+use drt_model::{Memory, TaskSet};
 use drt_outcome::fault::{Fault, PastEdge, TOO_LONG};
 use std::alloc::Global;
 
@@ -83,7 +83,4 @@ fn describe(alloc: Global, set: &TaskSet, task: u32, edge: u32) -> Result<PastEd
         separation: at.sep,
         deadline: source.deadline,
     })
-}
-{
-    Ok(Name::from_vec(Vec::from_slice(alloc, name.as_slice())?))
 }
