@@ -12,7 +12,7 @@ pub record AreGaps (g : Digraph) (gaps : List ℕ) : Type 0 where
   pub small : (k : ℕ) → slice_index gaps k ≤ most_time
 
 -- The graph's separations are laid out, and the bound is a time.
-pub record IsBounded (b : Bounded) : Type 0 where
+pub record IsBoundedGraph (b : Bounded) : Type 0 where
   pub gaps : AreGaps b.graph.now b.gaps.now
   pub bound : b.bound ≤ most_time
 

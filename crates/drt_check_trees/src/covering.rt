@@ -7,7 +7,7 @@ ghost use Rattle.drt_claims.specs.Claims.{Each, graphs_of};
 ghost use Rattle.drt_claims.specs.Trees.{CoversWalks, HasOpeningWalks, HasShortWalks, IsClosedWalk, IsShortWalk, IsTreePerHigherTask, greatest_deadline, tree_graphs};
 ghost use Rattle.drt_check_trees.specs.Asking.{span_of};
 ghost use Rattle.drt_check_trees.specs.Entries.{IsCatalogue, IsExtendedBy, last_in};
-ghost use Rattle.drt_check_trees.specs.Gaps.{IsBounded};
+ghost use Rattle.drt_check_trees.specs.Gaps.{IsBoundedGraph};
 ghost use Rattle.drt_check_trees.specs.Order.{IsPriorityOrder};
 
 use crate::asking::{Extent, measure};
@@ -73,7 +73,7 @@ fn covers(alloc: Global, graph: &Graph, bound: u32, tree: &TreeClaim) -> Result<
 
 // Whether the walk of each single vertex is dominated.
 fn has_openings(bounded: &Bounded<'_>, catalogue: &Catalogue<'_>, hints: &mut [usize; 96]) -> bool
-    requires bounded { IsBounded bounded.now }
+    requires bounded { IsBoundedGraph bounded.now }
     requires from { 1 ≤ bounded.now.bound }
     requires catalogue { IsCatalogue bounded.now catalogue.now }
     ensures { IsTrue result ↔ HasOpeningWalks bounded.now.bound bounded.now.graph.now catalogue.now.tree.now }
@@ -99,7 +99,7 @@ fn are_closed(
     catalogue: &Catalogue<'_>,
     hints: &mut [usize; 96],
 ) -> Result<bool, Memory>
-    requires bounded { IsBounded bounded.now }
+    requires bounded { IsBoundedGraph bounded.now }
     requires catalogue { IsCatalogue bounded.now catalogue.now }
     ensures { IfOk result (λ closed. IsTrue closed ↔ All (IsClosedWalk bounded.now.bound bounded.now.graph.now catalogue.now.tree.now) catalogue.now.tree.now.walks) }
 {
@@ -120,7 +120,7 @@ fn is_closed(
     hints: &mut [usize; 96],
     walk: &[u32],
 ) -> Result<bool, Memory>
-    requires bounded { IsBounded bounded.now }
+    requires bounded { IsBoundedGraph bounded.now }
     requires catalogue { IsCatalogue bounded.now catalogue.now }
     requires walk { IsShortWalk bounded.now.bound bounded.now.graph.now walk.now }
     ensures { IfOk result (λ closed. IsTrue closed ↔ IsClosedWalk bounded.now.bound bounded.now.graph.now catalogue.now.tree.now walk.now) }
@@ -146,7 +146,7 @@ fn is_extended(
     extent: Extent,
     k: u32,
 ) -> Result<bool, Memory>
-    requires bounded { IsBounded bounded.now }
+    requires bounded { IsBoundedGraph bounded.now }
     requires catalogue { IsCatalogue bounded.now catalogue.now }
     requires walk { IsShortWalk bounded.now.bound bounded.now.graph.now walk.now }
     requires span { extent.span ≡ span_of bounded.now.graph.now walk.now }

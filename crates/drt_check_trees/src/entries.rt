@@ -4,7 +4,7 @@ ghost use Rattle.drt_model.specs.Walk.{work};
 ghost use Rattle.drt_claims.specs.Trees.{HasShortWalks, IsShortWalk};
 ghost use Rattle.drt_check_trees.specs.Asking.{AsksNoLess, AreWalkVertices, span_of};
 ghost use Rattle.drt_check_trees.specs.Entries.{AreInOrder, AreWalkEntries, IsCatalogue, IsEntryOf, IsListed, IsWalkOver, is_up_to, last_in};
-ghost use Rattle.drt_check_trees.specs.Gaps.{AreGaps, IsBounded};
+ghost use Rattle.drt_check_trees.specs.Gaps.{AreGaps, IsBoundedGraph};
 ghost use Rattle.drt_check_trees.specs.declared.entries.Entry.{Entry};
 
 use crate::asking::{Extent, asks_no_less, measure};
@@ -56,7 +56,7 @@ pub(crate) fn entries_of(
     bounded: &Bounded<'_>,
     tree: &TreeClaim,
 ) -> Result<Vec<Entry>, Memory>
-    requires bounded { IsBounded bounded.now }
+    requires bounded { IsBoundedGraph bounded.now }
     requires short { HasShortWalks bounded.now.bound bounded.now.graph.now tree.now }
     ensures { IfOk result (λ entries. AreWalkEntries bounded.now.bound bounded.now.graph.now tree.now.walks entries.items) }
 {
@@ -67,7 +67,7 @@ pub(crate) fn entries_of(
 
 // The entries without those whose walk the one kept before it dominates.
 fn thinned(bounded: &Bounded<'_>, tree: &TreeClaim, all: Vec<Entry>) -> Vec<Entry>
-    requires bounded { IsBounded bounded.now }
+    requires bounded { IsBoundedGraph bounded.now }
     requires short { HasShortWalks bounded.now.bound bounded.now.graph.now tree.now }
     requires all { AreWalkEntries bounded.now.bound bounded.now.graph.now tree.now.walks all.items }
     ensures { AreWalkEntries bounded.now.bound bounded.now.graph.now tree.now.walks result.items }
@@ -89,7 +89,7 @@ fn thinned(bounded: &Bounded<'_>, tree: &TreeClaim, all: Vec<Entry>) -> Vec<Entr
 
 // Whether the walk of the entry dominates this one, of this span.
 fn is_over(bounded: &Bounded<'_>, tree: &TreeClaim, entry: Entry, walk: &[u32], span: u64) -> bool
-    requires bounded { IsBounded bounded.now }
+    requires bounded { IsBoundedGraph bounded.now }
     requires short { HasShortWalks bounded.now.bound bounded.now.graph.now tree.now }
     requires entry { IsEntryOf bounded.now.graph.now tree.now.walks entry }
     requires walk { IsShortWalk bounded.now.bound bounded.now.graph.now walk.now }
@@ -104,7 +104,7 @@ fn is_over(bounded: &Bounded<'_>, tree: &TreeClaim, entry: Entry, walk: &[u32], 
 
 // An entry for each walk, by their numbers.
 fn listed(alloc: Global, bounded: &Bounded<'_>, tree: &TreeClaim) -> Result<Vec<Entry>, Memory>
-    requires bounded { IsBounded bounded.now }
+    requires bounded { IsBoundedGraph bounded.now }
     requires short { HasShortWalks bounded.now.bound bounded.now.graph.now tree.now }
     ensures { IfOk result (λ entries. IsListed bounded.now.graph.now tree.now.walks entries.items (length tree.now.walks)) }
 {
@@ -118,7 +118,7 @@ fn listed(alloc: Global, bounded: &Bounded<'_>, tree: &TreeClaim) -> Result<Vec<
 
 // The entry of a walk that has this number.
 fn entry_of(bounded: &Bounded<'_>, walk: &[u32], number: usize) -> Entry
-    requires bounded { IsBounded bounded.now }
+    requires bounded { IsBoundedGraph bounded.now }
     requires short { IsShortWalk bounded.now.bound bounded.now.graph.now walk.now }
     ensures number { result.number ≡ number }
     ensures last { result.last ≡ last_in walk.now }
@@ -198,7 +198,7 @@ fn is_no_less(
     other: &[u32],
     span: u64,
 ) -> bool
-    requires bounded { IsBounded bounded.now }
+    requires bounded { IsBoundedGraph bounded.now }
     requires short { HasShortWalks bounded.now.bound bounded.now.graph.now tree.now }
     requires entry { IsEntryOf bounded.now.graph.now tree.now.walks entry }
     requires other { IsShortWalk bounded.now.bound bounded.now.graph.now other.now }
@@ -220,7 +220,7 @@ fn is_over_at(
     walk: &[u32],
     span: u64,
 ) -> bool
-    requires bounded { IsBounded bounded.now }
+    requires bounded { IsBoundedGraph bounded.now }
     requires catalogue { IsCatalogue bounded.now catalogue.now }
     requires walk { IsShortWalk bounded.now.bound bounded.now.graph.now walk.now }
     requires span { span ≡ span_of bounded.now.graph.now walk.now }
@@ -249,7 +249,7 @@ pub(crate) fn has_above(
     walk: &[u32],
     extent: Extent,
 ) -> bool
-    requires bounded { IsBounded bounded.now }
+    requires bounded { IsBoundedGraph bounded.now }
     requires catalogue { IsCatalogue bounded.now catalogue.now }
     requires walk { IsShortWalk bounded.now.bound bounded.now.graph.now walk.now }
     requires span { extent.span ≡ span_of bounded.now.graph.now walk.now }

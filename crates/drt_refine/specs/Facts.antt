@@ -64,8 +64,8 @@ module _ (t : FrontierSetting) where
   left c = left_of (tuples t.forest c.nodes) c.state
 
   -- The entries, and those that can still come, are fewer than four for each tuple below the roots.
-  abbrev pub IsBounded : FrontierState → Type 0
-  IsBounded s = length s.log + total left s.combinations + 2 ≤ 4 * tuples t.forest t.roots
+  abbrev pub IsBoundedFrontier : FrontierState → Type 0
+  IsBoundedFrontier s = length s.log + total left s.combinations + 2 ≤ 4 * tuples t.forest t.roots
 
 -- The setting with another budget.
 abbrev pub with_budget : ℕ → FrontierSetting → FrontierSetting

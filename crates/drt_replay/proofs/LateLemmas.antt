@@ -9,7 +9,7 @@ use Rattle.drt_model.specs.declared.jobs.Policy.{Policy}
 use Rattle.drt_model.specs.Trace.{job_at, done, Misses}
 use Rattle.drt_model.proofs.MachineLemmas.{done_mono_le, done-le-need}
 use Rattle.drt_model.specs.Misses.{index_of, miss_of, IsJob, IsLeastMiss}
-use Rattle.drt_replay.specs.Board.{Shown, IsFinishSoFar, IsLate, IsLateBy, IsNoLaterAt, IsEarlier, IsFirstLate, IsNoLater, IsFirstMiss}
+use Rattle.drt_replay.specs.Board.{Shown, IsFinishSoFar, IsLate, IsLateBy, IsNoLaterAt, IsEarlier, IsFirstLate, IsNoLaterMiss, IsFirstMiss}
 
 late_by : (policy : Policy) (jobs : List Job) (ticks j : ℕ) (o : Option ℕ) → IsFinishSoFar policy jobs ticks j o → IsLateBy (job_at jobs j) o ticks → Misses policy jobs j
 late_by policy jobs ticks j None f h = omega (arith, f, done_mono_le policy jobs j (job_at jobs j).deadline ticks h.0)
@@ -90,7 +90,7 @@ index_mono jobs j k e h =
     let le : sum_by f (take j jobs) ≤ sum_by f (take k jobs) = subst (λ xs. sum_by f xs ≤ sum_by f (take k jobs)) (take-take j k jobs h) (sum_by-take-le f (take k jobs) j) in
     rw (← e) le
 
-no_later_miss : (jobs : List Job) (j k : ℕ) → IsNoLaterAt jobs j k → IsNoLater (miss_of jobs j) (miss_of jobs k)
+no_later_miss : (jobs : List Job) (j k : ℕ) → IsNoLaterAt jobs j k → IsNoLaterMiss (miss_of jobs j) (miss_of jobs k)
 no_later_miss jobs j k (inl h) = inl h
 no_later_miss jobs j k (inr (e, inl h)) = inr (e, inl h)
 no_later_miss jobs j k (inr (e, inr (f, h))) = inr (e, inr (f, index_mono jobs j k f h))

@@ -48,8 +48,8 @@ IsLate shown j =
     (j < length shown.jobs) × Misses shown.policy shown.jobs j × ((job_at shown.jobs j).deadline ≤ shown.ticks)
 
 -- One miss counts as no later than another: by deadline, then by task, then by index.
-abbrev pub IsNoLater : Miss → Miss → Type 0
-IsNoLater m n =
+abbrev pub IsNoLaterMiss : Miss → Miss → Type 0
+IsNoLaterMiss m n =
     (m.deadline < n.deadline)
     ⊎ ((m.deadline ≡ n.deadline) × ((m.task < n.task) ⊎ ((m.task ≡ n.task) × (m.index ≤ n.index))))
 
@@ -58,7 +58,7 @@ pub record IsFirstMiss (shown : Shown) (miss : Miss) : Type 0 where
   pub job : ℕ
   pub late : IsLate shown job
   pub is : miss ≡ miss_of shown.jobs job
-  pub first : (k : ℕ) → IsLate shown k → IsNoLater miss (miss_of shown.jobs k)
+  pub first : (k : ℕ) → IsLate shown k → IsNoLaterMiss miss (miss_of shown.jobs k)
 
 -- What a job's finish so far says of its lateness: its deadline has come, and it hasn't finished by then.
 abbrev pub IsLateBy : Job → Option ℕ → ℕ → Type 0

@@ -16,7 +16,7 @@ use Rattle.drt_claims.specs.Ranges.{IsEvidenceInRange}
 use Rattle.drt_claims.specs.declared.evidence.Evidence.{Evidence}
 use Rattle.drt_claims.specs.declared.evidence.Evidence.TheVariants.{FixedNo}
 use Rattle.drt_fixed.specs.Answers.{IsNo}
-use Rattle.drt_sp.specs.Answers.{IsTreeUndecided, IsVertexReached, Says}
+use Rattle.drt_sp.specs.Answers.{IsTreeUndecided, IsVertexReached, IsAnswerOf}
 use Rattle.drt_sp.specs.Needs.{IsBelowRefinement}
 use Rattle.drt_sp.specs.Vertices.{subjects}
 use Rattle.drt_sp.specs.declared.answer.Answer.{Answer}
@@ -86,11 +86,11 @@ pub record IsRefused (set : Contents) (evidence : Evidence) : Type 0 where
 
 -- What each answer says, with a budget.
 abbrev pub IsResponseAnswer : Contents → ℕ → Answer (List Response) ResponseTrail → Type 0
-IsResponseAnswer set budget answer = Says (AreResponses set) (IsRefused set) (IsUndecidedResponse set budget) answer
+IsResponseAnswer set budget answer = IsAnswerOf (AreResponses set) (IsRefused set) (IsUndecidedResponse set budget) answer
 
 -- What tails and states say.
 abbrev pub IsStatesResponse : Contents → Answer (List Response) Unit → Type 0
-IsStatesResponse set answer = Says (AreResponses set) (IsRefused set) (λ nothing. Unit {0}) answer
+IsStatesResponse set answer = IsAnswerOf (AreResponses set) (IsRefused set) (λ nothing. Unit {0}) answer
 
 -- What came of vertex v of task k.
 abbrev pub IsVertexResponse : Contents → ℕ → ℕ → ℕ → VertexResponse → Type 0

@@ -165,11 +165,11 @@ IsTreeUndecided set budget (Table task log) = IsSpentTreeTable set.tasks budget 
 IsTreeUndecided set budget (Refine task vertex log) = IsSpentVertex set budget task vertex log
 
 -- What an answer says, by what each of its variants says.
-abbrev pub Says : {Y T : Type 0} → (Y → Type 0) → (Evidence → Type 0) → (T → Type 0) → Answer Y T → Type 0
-Says if_meets if_misses if_undecided (answers.Meets shown) = if_meets shown
-Says if_meets if_misses if_undecided (answers.Misses evidence) = if_misses evidence
-Says if_meets if_misses if_undecided (answers.Undecided trail) = if_undecided trail
+abbrev pub IsAnswerOf : {Y T : Type 0} → (Y → Type 0) → (Evidence → Type 0) → (T → Type 0) → Answer Y T → Type 0
+IsAnswerOf if_meets if_misses if_undecided (answers.Meets shown) = if_meets shown
+IsAnswerOf if_meets if_misses if_undecided (answers.Misses evidence) = if_misses evidence
+IsAnswerOf if_meets if_misses if_undecided (answers.Undecided trail) = if_undecided trail
 
 -- What each answer says, with a budget.
 abbrev pub IsTreeAnswer : Contents → ℕ → Answer Evidence FixedTrail → Type 0
-IsTreeAnswer set budget answer = Says (IsTreeYes set) (IsTreeNo set) (IsTreeUndecided set budget) answer
+IsTreeAnswer set budget answer = IsAnswerOf (IsTreeYes set) (IsTreeNo set) (IsTreeUndecided set budget) answer

@@ -9,7 +9,7 @@ use Rattle.drt_refine.specs.Below.{AreNodes}
 use Rattle.drt_choices.specs.Choices.{AreTrees, FirstPass}
 use Rattle.drt_check_trees.specs.Order.{IsOrder}
 use Rattle.drt_claims.specs.Trees.{greatest_deadline}
-use Rattle.drt_sp.specs.Answers.{AreExactTrees, IsTreeNo, IsTreeUndecided, Says}
+use Rattle.drt_sp.specs.Answers.{AreExactTrees, IsTreeNo, IsTreeUndecided, IsAnswerOf}
 use Rattle.drt_sp.specs.Needs.{AreFewLeaves}
 use Rattle.drt_sp.specs.Progress.{AreTreesComplete}
 use Rattle.drt_sp.specs.declared.answer.Answer.{Answer}
@@ -34,7 +34,7 @@ pub record AreProvedTrees (set : Contents) (trees : ProvedTrees) : Type 0 where
 
 -- What each answer says, with a budget.
 abbrev pub IsTreesAnswer : Contents → ℕ → Answer ProvedTrees FixedTrail → Type 0
-IsTreesAnswer set budget answer = Says (AreProvedTrees set) (IsTreeNo set) (IsTreeUndecided set budget) answer
+IsTreesAnswer set budget answer = IsAnswerOf (AreProvedTrees set) (IsTreeNo set) (IsTreeUndecided set budget) answer
 
 -- All vertices of a set are proved in this order.
 abbrev pub IsComplete : Contents → List ℕ → Progress → Type 0
@@ -42,4 +42,4 @@ IsComplete set order p = AreTreesComplete set.tasks order p.forest p.roots.items
 
 -- How an analysis in this order ends.
 abbrev pub IsOutcome : Contents → List ℕ → ℕ → Answer Progress FixedTrail → Type 0
-IsOutcome set order budget answer = Says (IsComplete set order) (IsTreeNo set) (IsTreeUndecided set budget) answer
+IsOutcome set order budget answer = IsAnswerOf (IsComplete set order) (IsTreeNo set) (IsTreeUndecided set budget) answer

@@ -5,7 +5,7 @@ ghost use Rattle.drt_check_trees.specs.Order.{IsOrder};
 ghost use Rattle.drt_claims.specs.Claims.{graphs_of};
 ghost use Rattle.drt_claims.specs.Ranges.{IsEvidenceInRange};
 ghost use Rattle.drt_claims.specs.Trees.{greatest_deadline};
-ghost use Rattle.drt_sp.specs.Answers.{IsYesEvidence, IsTreeNo, IsTreeUndecided, Says};
+ghost use Rattle.drt_sp.specs.Answers.{IsYesEvidence, IsTreeNo, IsTreeUndecided, IsAnswerOf};
 ghost use Rattle.drt_sp.specs.Progress.{AreTreesGrown, AreProved, AreTreesComplete};
 ghost use Rattle.drt_sp.specs.Searches.{IsEndAt};
 
@@ -80,7 +80,7 @@ impl Progress {
         ensures forest { self.new.forest ≡ self.old.forest }
         ensures roots { self.new.roots ≡ self.old.roots }
         ensures trees { self.new.trees ≡ self.old.trees }
-        ensures decided { IfOk result (Says
+        ensures decided { IfOk result (IsAnswerOf
             (λ done. AreProved given.now.set.now.tasks given.now.order.now (place + 1) self.new.trees.items self.new.proofs.items)
             (IsTreeNo given.now.set.now)
             (IsTreeUndecided given.now.set.now crew.now.effort.budget)) }
