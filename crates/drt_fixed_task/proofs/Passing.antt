@@ -13,7 +13,7 @@ use Rattle.drt_states.specs.declared.claims.TailClaim.{TailClaim}
 use Rattle.drt_states.specs.States.{AreStates, HaveDominatedChildren, HavePassingTimes}
 use Rattle.drt_states.specs.Tails.{BoundsWalks, EachTail, IsTail, Place, graphs_of_places}
 use Rattle.drt_states_laws.specs.Laws.{AreWalksOf, StatesPass, asked_together}
-use Rattle.drt_choices.specs.Choices.{VertexPasses}
+use Rattle.drt_sp.specs.Choices.{VertexPasses}
 use Rattle.drt_fixed_task.specs.Higher.{higher_tasks}
 use Rattle.drt_fixed_task.specs.Tails.{AreTails}
 use Rattle.drt_fixed_task.proofs.HigherTasks.{asked_is, higher_all}

@@ -19,7 +19,7 @@ use Rattle.drt_busy.specs.WalkReleases.{all_releases, release_at, releases_of, w
 use Rattle.drt_busy.proofs.Cuts.{are_cut, cut_sums, cut_walks}
 use Rattle.drt_busy.proofs.EdfWalks.{deadline_here}
 use Rattle.drt_busy.proofs.FixedWalks.{priority_here}
-use Rattle.drt_choices.proofs.Members.{IsOfWalk, first_job, is_higher, job_releases, of_walks}
+use Rattle.drt_sp.proofs.Members.{IsOfWalk, first_job, is_higher, job_releases, of_walks}
 use Rattle.drt_sp_task.specs.Task.{IsTaskMiss, TaskPasses}
 use Rattle.drt_fixed_task.specs.Walks.{LeaveNoTime}
 

@@ -2,7 +2,7 @@
 use Rattle.std.specs.Prelude.{ℕ, List}
 use Rattle.drt_model.specs.declared.tasks.Task.{Task}
 use Rattle.drt_busy.specs.Choice.{task_at}
-use Rattle.drt_choices.specs.Choices.{VertexPasses}
+use Rattle.drt_sp.specs.Choices.{VertexPasses}
 use Rattle.drt_sp_states.specs.declared.search.Searched.{Searched}
 use Rattle.drt_sp_states.specs.declared.search.Searched.TheVariants as searches
 use Rattle.drt_sp_task.specs.Task.{IsMeeting, IsTaskMiss}

@@ -5,7 +5,7 @@ use Rattle.std.proofs.lemmas.Option.{none-some}
 use Rattle.drt_model.specs.declared.tasks.Task.{Task}
 use Rattle.drt_tree.specs.Tree.{Plain}
 use Rattle.drt_refine.specs.Below.{AreNodes}
-use Rattle.drt_choices.specs.Choices.{AreTrees}
+use Rattle.drt_sp.specs.Choices.{AreTrees}
 
 pub length_first : {A : Type 0} (xs : List A) (m : ℕ) → m ≤ length xs → length (take m xs) ≡ m
 length_first xs zero le = refl

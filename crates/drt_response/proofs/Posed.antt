@@ -10,9 +10,9 @@ use Rattle.drt_busy.specs.Choice.{graph_at}
 use Rattle.drt_busy.specs.Decide.{TimesSufficeForTask}
 use Rattle.drt_steps.specs.Time.{AreChosen, Passes}
 use Rattle.drt_refine.specs.Below.{AreBelow}
-use Rattle.drt_choices.specs.Choices.{VertexPasses, chosen as chosen_of}
-use Rattle.drt_choices.proofs.Chosen.{chosen_walks}
-use Rattle.drt_choices.specs.Laws.{IsGreatestTime, IsPosed, LeavesRespond, WalksPass, leaf_releases}
+use Rattle.drt_sp.specs.Choices.{VertexPasses, chosen as chosen_of}
+use Rattle.drt_sp.proofs.ChosenLeaves.{chosen_walks}
+use Rattle.drt_sp.specs.ChoiceLaws.{IsGreatestTime, IsPosed, LeavesRespond, WalksPass, leaf_releases}
 use Rattle.drt_claims.specs.Trees.{greatest_deadline}
 use Rattle.drt_sp.specs.Answers.{IsVertexReached, IsTupleFor}
 use Rattle.drt_sp.specs.Grown.{AreProvedTrees}
@@ -25,7 +25,7 @@ use Rattle.drt_sp.proofs.Yes.{few_tasks}
 use Rattle.drt_worst.specs.Splitting.{IsGreatest, search_for}
 use Rattle.drt_response.specs.Answers.{IsResponseOf}
 use Rattle.drt_responses.specs.declared.response.Response.{Response}
-use Rattle.drt_choices.proofs.Responses.{reaching_leaves}
+use Rattle.drt_sp.proofs.Responses.{reaching_leaves}
 use Rattle.drt_response.proofs.Firsts.{get_first, length_first, nodes_first, trees_first}
 
 module _ (set : Contents) (trees : ProvedTrees) (are : AreProvedTrees set trees) (m k : ℕ) (at : slice_get trees.order m ≡ Some k) where

@@ -18,7 +18,7 @@ use Rattle.drt_states.specs.declared.claims.TailClaim.{TailClaim}
 use Rattle.drt_states.specs.States.{AreStates, HaveDominatedChildren}
 use Rattle.drt_states.specs.Tails.{BoundsWalks, EachTail, IsTail, graphs_of_places}
 use Rattle.drt_states_laws.specs.Laws.{StatesPass}
-use Rattle.drt_choices.specs.Laws.{AreReachingReleases}
+use Rattle.drt_sp.specs.ChoiceLaws.{AreReachingReleases}
 use Rattle.drt_claims.specs.Searches.{higher_places, higher_tails, places_of}
 use Rattle.drt_claims.specs.Trees.{higher_count}
 use Rattle.drt_check.proofs.SoundOrder.{Walked, ordered, ordered_walked, walked}

@@ -11,7 +11,7 @@ use Rattle.drt_model.specs.declared.jobs.Release.{Release}
 use Rattle.drt_busy.specs.Choice.{AreWalks, graph_at}
 use Rattle.drt_busy.specs.Response.{IsGreatestResponse, reaching as reaching_walks}
 use Rattle.drt_tree.specs.Tree.{Plain}
-use Rattle.drt_choices.specs.Laws.{AreReachingReleases}
+use Rattle.drt_sp.specs.ChoiceLaws.{AreReachingReleases}
 use Rattle.drt_claims.specs.Ranges.{IsEvidenceInRange}
 use Rattle.drt_claims.specs.declared.evidence.Evidence.{Evidence}
 use Rattle.drt_claims.specs.declared.evidence.Evidence.TheVariants.{FixedNo}

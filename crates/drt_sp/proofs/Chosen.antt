@@ -9,7 +9,7 @@ use Rattle.drt_model.specs.Walk.{IsPath, gap, last_of, span}
 use Rattle.drt_graph.proofs.Edges.{target_of}
 use Rattle.drt_busy.specs.Choice.{IsWalk, due_of, graph_at}
 use Rattle.drt_tree.specs.Tree.{Plain, walk}
-use Rattle.drt_choices.specs.Choices.{chosen}
+use Rattle.drt_sp.specs.Choices.{chosen}
 use Rattle.drt_busy.specs.Response.{cut, cut_from}
 use Rattle.drt_sp.specs.Chosen.{leaf_for}
 

@@ -13,7 +13,7 @@ use Rattle.drt_busy.specs.Choice.{task_at}
 use Rattle.drt_tree.specs.Tree.{Plain, leaves}
 use Rattle.drt_refine.specs.Below.{tuples}
 use Rattle.drt_check_trees.specs.Order.{IsOrder}
-use Rattle.drt_choices.proofs.Asked.{AreRising, rising_first, rising_tail}
+use Rattle.drt_sp.proofs.Asked.{AreRising, rising_first, rising_tail}
 use Rattle.drt_sp.specs.Needs.{product_above}
 use Rattle.drt_sp.proofs.Products.{product, product_permutation, product_push}
 

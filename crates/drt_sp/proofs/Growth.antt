@@ -11,7 +11,7 @@ use Rattle.drt_busy.specs.Choice.{graph_at}
 use Rattle.drt_graph.specs.Graphs.{no_graph}
 use Rattle.drt_tree.specs.Tree.{Grows, IsForest, Plain, leaves}
 use Rattle.drt_refine.specs.Below.{AreNodes}
-use Rattle.drt_choices.specs.Choices.{AreTrees, FirstPass, StandsFor}
+use Rattle.drt_sp.specs.Choices.{AreTrees, FirstPass, StandsFor}
 use Rattle.drt_check_trees.specs.Order.{IsOrder}
 use Rattle.drt_claims.specs.Claims.{Each}
 use Rattle.drt_claims.specs.Ranges.{IsInRangeTree}

@@ -1,3 +1,11 @@
+pub mod Asked
+pub mod Covered
+pub mod Cuts
+pub mod ChosenLeaves
+pub mod Members
+pub mod Missed
+pub mod Rows
+pub mod Responses
 pub mod Rising
 pub mod FewWalks
 pub mod Products

@@ -17,10 +17,10 @@ use Rattle.drt_busy.specs.Choice.{AreDueBy, AreWalks, IsWalk, due_of, graph_at, 
 use Rattle.drt_busy.specs.WalkReleases.{all_releases, releases_of, with_job}
 use Rattle.drt_tree.specs.Tree.{IsForest, IsPair, LeadsToLeaf, Plain, children, walk}
 use Rattle.drt_refine.specs.Below.{AreBelow, AreNodes}
-use Rattle.drt_choices.specs.Choices.{AreTrees, chosen}
+use Rattle.drt_sp.specs.Choices.{AreTrees, chosen}
 use Rattle.drt_check_trees.specs.Order.{IsOrder}
 use Rattle.drt_busy.specs.Response.{cut}
-use Rattle.drt_choices.specs.Laws.{LeavesMiss, no_releases}
+use Rattle.drt_sp.specs.ChoiceLaws.{LeavesMiss, no_releases}
 use Rattle.drt_claims.specs.Claims.{graphs_of}
 use Rattle.drt_claims.specs.Ranges.{AreInRangeReleases, IsInRangeRelease}
 use Rattle.drt_claims.specs.Trees.{greatest_deadline}

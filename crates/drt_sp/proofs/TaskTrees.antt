@@ -24,9 +24,9 @@ use Rattle.drt_tree.specs.Shape.{Shape, parts as leaf_count, pairs as pair_count
 use Rattle.drt_tree.specs.Tree.{Plain, IsForest, IsPair, IsUnder, LeadsToLeaf, children, node_children, leaves, node_values_in, walk, node_walk, leaf_node, leaf_steps, with_leaves}
 use Rattle.drt_tree.specs.declared.leaf.Leaf.{Leaf}
 use Rattle.drt_tree.proofs.Trees.{get_front, grows_on, index_front, leaves_grow, with_long}
-use Rattle.drt_choices.specs.Choices.{StandsFor}
+use Rattle.drt_sp.specs.Choices.{StandsFor}
 use Rattle.drt_busy.specs.Response.{cut_from}
-use Rattle.drt_choices.proofs.Cuts.{cut_asks}
+use Rattle.drt_sp.proofs.Cuts.{cut_asks}
 use Rattle.drt_claims.specs.Proofs.{node_parts}
 use Rattle.drt_claims.specs.Ranges.{IsInRangePair, IsInRangeTree, IsInRangeWalk}
 use Rattle.drt_claims.specs.Trees.{HasShortWalks, IsAbove, IsClosedWalk, IsExtendedWalk, IsShortWalk, IsTree, asked, node_values, root}

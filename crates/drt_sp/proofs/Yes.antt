@@ -17,7 +17,7 @@ use Rattle.drt_model.specs.declared.tasks.Task.{Task}
 use Rattle.drt_busy.specs.Choice.{graph_at, no_task, task_at}
 use Rattle.drt_busy.specs.Decide.{TimesDecide}
 use Rattle.drt_tree.specs.Tree.{Plain}
-use Rattle.drt_choices.specs.Choices.{VertexPasses}
+use Rattle.drt_sp.specs.Choices.{VertexPasses}
 use Rattle.drt_check_trees.specs.Order.{IsOrder}
 use Rattle.drt_claims.specs.Claims.{Each}
 use Rattle.drt_claims.specs.Proofs.{HasPassingTimes, HasShape, HasPassingTime, after_all, opening_stack, passes, subjects_from}

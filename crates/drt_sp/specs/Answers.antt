@@ -17,8 +17,8 @@ use Rattle.drt_tree.specs.Tree.{IsForest, Plain}
 use Rattle.drt_refine.specs.Below.{AreBelow, AreNodes}
 use Rattle.drt_refine.specs.declared.step.FrontierEntry.{FrontierEntry}
 use Rattle.drt_table.specs.declared.step.Entry.{Entry}
-use Rattle.drt_choices.specs.Choices.{FirstPass, VertexPasses}
-use Rattle.drt_choices.specs.Laws.{IsPosed, no_releases}
+use Rattle.drt_sp.specs.Choices.{FirstPass, VertexPasses}
+use Rattle.drt_sp.specs.ChoiceLaws.{IsPosed, no_releases}
 use Rattle.drt_claims.specs.Claims.{Each}
 use Rattle.drt_claims.specs.Ranges.{IsEvidenceInRange}
 use Rattle.drt_claims.specs.Rules.{Accepts}

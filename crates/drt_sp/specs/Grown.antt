@@ -6,7 +6,7 @@ use Rattle.drt_model.specs.Limits.{IsTaskSet}
 use Rattle.drt_model.specs.Schedulable.{Schedulable}
 use Rattle.drt_tree.specs.Tree.{IsForest}
 use Rattle.drt_refine.specs.Below.{AreNodes}
-use Rattle.drt_choices.specs.Choices.{AreTrees, FirstPass}
+use Rattle.drt_sp.specs.Choices.{AreTrees, FirstPass}
 use Rattle.drt_check_trees.specs.Order.{IsOrder}
 use Rattle.drt_claims.specs.Trees.{greatest_deadline}
 use Rattle.drt_sp.specs.Answers.{AreExactTrees, IsTreeNo, IsTreeUndecided, IsAnswerOf}

@@ -1,3 +1,5 @@
+pub mod Choices
+pub mod ChoiceLaws
 pub mod Evidence
 pub mod TreeClaims
 pub mod Needs

@@ -5,7 +5,7 @@ use Rattle.drt_model.specs.Walk.{deadline, wcet}
 use Rattle.drt_model.specs.declared.tasks.Task.{Task}
 use Rattle.drt_busy.specs.Choice.{graph_at}
 use Rattle.drt_tree.specs.Tree.{IsForest, Plain}
-use Rattle.drt_choices.specs.Choices.{AreTrees, FirstPass}
+use Rattle.drt_sp.specs.Choices.{AreTrees, FirstPass}
 use Rattle.drt_check_trees.specs.Order.{IsOrder}
 use Rattle.drt_claims.specs.Claims.{Each}
 use Rattle.drt_claims.specs.Ranges.{IsInRangeProof, IsInRangeTree}

@@ -6,7 +6,7 @@ use Rattle.drt_model.specs.Digraph.{Digraph}
 use Rattle.drt_steps.specs.Values.{value_at}
 use Rattle.drt_tree.specs.Tree.{Plain, Grows, children, leaves, walk}
 use Rattle.drt_tree.specs.declared.leaf.Leaf.{Leaf}
-use Rattle.drt_choices.specs.Choices.{StandsFor}
+use Rattle.drt_sp.specs.Choices.{StandsFor}
 use Rattle.drt_claims.specs.Ranges.{IsInRangeTree}
 use Rattle.drt_claims.specs.Trees.{IsAbove, IsShortWalk, asked}
 use Rattle.drt_claims.specs.declared.evidence.Pair.{Pair}

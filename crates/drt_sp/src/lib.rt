@@ -7,6 +7,9 @@
 //! `budgets_suffice` says how large a budget is enough, by the numbers of the tasks' walks, and `searches_go_on` that a search that spent
 //! its budget could go on.
 //!
+//! What trees of request functions say of the walks of the tasks stands in laws of its own: a task is judged by choices of one walk
+//! for each task of higher priority, and an analysis looks at trees instead, whose leaves are walks that stand for all others.
+//!
 //! Its parts are there for whoever analyses one task alone: `search_tree` and `prove_vertices`.
 #![tactic(auto)]
 
@@ -14,6 +17,7 @@ mod ahead;
 mod analysis;
 mod answer;
 mod attempts;
+pub mod choices;
 mod grown;
 mod joints;
 pub mod laws;
@@ -29,6 +33,7 @@ mod walks;
 
 pub use analysis::{ALLOWANCE, analyse_fixed, analyse_trees};
 pub use answer::Answer;
+pub use choices::{leaves_miss, leaves_pass, leaves_respond, walks_pass};
 pub use drt_check_trees::greatest_deadline;
 pub use drt_trails::FixedTrail;
 pub use grown::ProvedTrees;

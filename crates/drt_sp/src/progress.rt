@@ -10,6 +10,7 @@ ghost use Rattle.drt_sp.specs.Progress.{AreTreesGrown, AreProved, AreTreesComple
 ghost use Rattle.drt_sp.specs.Searches.{IsEndAt};
 
 use crate::answer::Answer;
+use crate::choices::leaves_pass;
 use crate::refusal::refusal;
 use crate::trees::{SearchEnd, TreeSearch, plant_tree};
 use crate::vertices::{TaskProofs, prove_vertices};
@@ -17,7 +18,6 @@ use crate::walks::VertexTuple;
 use drt_accepted::Accepted;
 use drt_busy::{times_decide, times_suffice_for_task};
 use drt_check_trees::greatest_deadline;
-use drt_choices::leaves_pass;
 use drt_claims::{Evidence, ProofClaim, TreeClaim};
 use drt_crew::Crew;
 use drt_model::{Memory, Row};

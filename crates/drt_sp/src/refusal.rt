@@ -3,10 +3,10 @@ ghost use Rattle.std.specs.Prelude.{◌≡◌, IfOk};
 ghost use Rattle.drt_claims.specs.Ranges.{IsEvidenceInRange};
 ghost use Rattle.drt_sp.specs.Answers.{IsFailedVertex, IsRefusalEvidence};
 
+use crate::choices::leaves_miss;
 use crate::progress::Given;
 use crate::releases::leaf_releases;
 use crate::walks::VertexTuple;
-use drt_choices::leaves_miss;
 use drt_claims::Evidence;
 use drt_model::{Memory, Miss};
 use drt_tree::Forest;

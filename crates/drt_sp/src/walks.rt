@@ -4,7 +4,7 @@ ghost use Rattle.drt_model.specs.declared.tasks.Task.{Task};
 ghost use Rattle.drt_model.specs.Digraph.{vertex_count};
 ghost use Rattle.drt_busy.specs.Choice.{IsWalk, graph_at};
 ghost use Rattle.drt_busy.specs.WalkReleases.{with_job};
-ghost use Rattle.drt_choices.specs.Choices.{chosen};
+ghost use Rattle.drt_sp.specs.Choices.{chosen};
 ghost use Rattle.drt_claims.specs.Claims.{graphs_of};
 ghost use Rattle.drt_releases.specs.Walks.{walk_at};
 ghost use Rattle.drt_sp.specs.Chosen.{AreLeaves, leaf_for};

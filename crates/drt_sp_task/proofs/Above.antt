@@ -14,8 +14,8 @@ use Rattle.drt_tree.specs.Tree.{IsForest}
 use Rattle.drt_steps.specs.Time.{AreChosen}
 use Rattle.drt_refine.specs.Below.{AreNodes}
 use Rattle.drt_refine.specs.declared.step.FrontierEntry.{FrontierEntry}
-use Rattle.drt_choices.specs.Laws.{IsPosed, LeavesPass}
-use Rattle.drt_choices.specs.Choices.{VertexPasses}
+use Rattle.drt_sp.specs.ChoiceLaws.{IsPosed, LeavesPass}
+use Rattle.drt_sp.specs.Choices.{VertexPasses}
 use Rattle.drt_check_trees.specs.Order.{IsOrder}
 use Rattle.drt_claims.specs.Trees.{greatest_deadline}
 use Rattle.drt_claims.specs.declared.evidence.ProofClaim.{ProofClaim}

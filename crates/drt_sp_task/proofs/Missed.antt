@@ -22,12 +22,12 @@ use Rattle.drt_busy.specs.WalkReleases.{release_at, with_job}
 use Rattle.drt_busy.proofs.EdfWalks.{deadline_here}
 use Rattle.drt_busy.proofs.FixedWalks.{priority_here}
 use Rattle.drt_tree.specs.Tree.{Plain}
-use Rattle.drt_choices.specs.Choices.{chosen}
+use Rattle.drt_sp.specs.Choices.{chosen}
 use Rattle.drt_check_trees.specs.Order.{IsOrder}
-use Rattle.drt_choices.specs.Laws.{no_releases}
-use Rattle.drt_choices.proofs.Asked.{requests_asked}
-use Rattle.drt_choices.proofs.Chosen.{below_length, chosen_asked, chosen_walks}
-use Rattle.drt_choices.proofs.Members.{first_job, is_higher, job_releases, of_walks}
+use Rattle.drt_sp.specs.ChoiceLaws.{no_releases}
+use Rattle.drt_sp.proofs.Asked.{requests_asked}
+use Rattle.drt_sp.proofs.ChosenLeaves.{below_length, chosen_asked, chosen_walks}
+use Rattle.drt_sp.proofs.Members.{first_job, is_higher, job_releases, of_walks}
 use Rattle.drt_claims.specs.Trees.{greatest_deadline}
 use Rattle.drt_sp.specs.Answers.{IsTupleFor}
 use Rattle.drt_sp_task.specs.Task.{IsTaskMiss}

@@ -15,8 +15,8 @@ use Rattle.drt_busy.specs.Choice.{graph_at, task_at}
 use Rattle.drt_tree.specs.Tree.{IsForest, Plain}
 use Rattle.drt_refine.specs.Below.{AreNodes}
 use Rattle.drt_refine.specs.declared.step.FrontierEntry.{FrontierEntry}
-use Rattle.drt_choices.specs.Choices.{VertexPasses}
-use Rattle.drt_choices.specs.Laws.{IsPosed}
+use Rattle.drt_sp.specs.Choices.{VertexPasses}
+use Rattle.drt_sp.specs.ChoiceLaws.{IsPosed}
 use Rattle.drt_claims.specs.Trees.{greatest_deadline}
 use Rattle.drt_trails.specs.declared.FixedTrail.{FixedTrail}
 use Rattle.drt_trails.specs.declared.FixedTrail.TheVariants.{Table, Refine}

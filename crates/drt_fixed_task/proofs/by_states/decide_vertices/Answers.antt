@@ -5,7 +5,7 @@ use Rattle.drt_model.specs.Digraph.{Digraph, vertex_count}
 use Rattle.drt_graph.specs.Graphs.{graph_of}
 use Rattle.drt_busy.specs.Choice.{graph_at}
 use Rattle.drt_releases.proofs.Walks.{graph_same}
-use Rattle.drt_choices.specs.Choices.{VertexPasses}
+use Rattle.drt_sp.specs.Choices.{VertexPasses}
 use Rattle.drt_sp_task.specs.Task.{TaskPasses}
 use Rattle.drt_fixed_task.proofs.by_states.decide_vertices.Goals as goal
 

@@ -5,7 +5,7 @@ use Rattle.drt_model.specs.Walk.{deadline, wcet}
 use Rattle.drt_model.specs.declared.tasks.Task.{Task}
 use Rattle.drt_graph.specs.Graphs.{graph_of}
 use Rattle.drt_busy.specs.Choice.{graph_at}
-use Rattle.drt_choices.specs.Laws.{leaf_releases}
+use Rattle.drt_sp.specs.ChoiceLaws.{leaf_releases}
 use Rattle.drt_releases.proofs.Walks.{graph_same}
 use Rattle.drt_sp.specs.declared.grown.ProvedTrees.{ProvedTrees}
 use Rattle.drt_sp.proofs.Orders.{order_place}

@@ -7,7 +7,7 @@ use Rattle.drt_model.specs.Walk.{deadline}
 use Rattle.drt_graph.specs.Graphs.{AreGraphs, graph_of, no_graph}
 use Rattle.drt_busy.specs.Choice.{graph_at}
 use Rattle.drt_tree.specs.Tree.{Plain}
-use Rattle.drt_choices.specs.Laws.{leaf_releases, no_releases}
+use Rattle.drt_sp.specs.ChoiceLaws.{leaf_releases, no_releases}
 use Rattle.drt_claims.specs.Claims.{graphs_of}
 use Rattle.drt_claims.specs.Ranges.{AreInRangeReleases}
 use Rattle.drt_releases.proofs.Walks.{graph_same}

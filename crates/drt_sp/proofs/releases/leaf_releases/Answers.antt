@@ -6,7 +6,7 @@ use Rattle.drt_graph.specs.Graphs.{AreGraphs}
 use Rattle.drt_busy.specs.Choice.{graph_at}
 use Rattle.drt_busy.specs.WalkReleases.{all_releases, with_job}
 use Rattle.drt_tree.specs.Tree.{Plain}
-use Rattle.drt_choices.specs.Choices.{chosen}
+use Rattle.drt_sp.specs.Choices.{chosen}
 use Rattle.drt_claims.specs.Claims.{graphs_of}
 use Rattle.drt_claims.specs.Ranges.{IsInRangeRelease}
 use Rattle.drt_claims.specs.Trees.{greatest_deadline}

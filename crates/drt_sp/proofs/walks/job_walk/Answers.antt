@@ -5,7 +5,7 @@ use Rattle.drt_model.specs.declared.tasks.Task.{Task}
 use Rattle.drt_busy.specs.Choice.{no_task, task_at}
 use Rattle.drt_busy.specs.WalkReleases.{with_job}
 use Rattle.drt_tree.proofs.Trees.{if_ok_more}
-use Rattle.drt_choices.specs.Choices.{chosen}
+use Rattle.drt_sp.specs.Choices.{chosen}
 use Rattle.drt_sp.proofs.walks.job_walk.Goals.{then-k-shown+in_ok-push, else-k-shown}
 use Rattle.drt_sp.proofs.walks.job_walk.Goals as goal
 

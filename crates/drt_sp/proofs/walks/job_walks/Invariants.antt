@@ -1,7 +1,7 @@
 -- The walks so far.
 use Rattle.std.proofs.Common.{◌≡◌, ℕ, ◌<◌, length}
 use Rattle.drt_busy.specs.WalkReleases.{with_job}
-use Rattle.drt_choices.specs.Choices.{chosen}
+use Rattle.drt_sp.specs.Choices.{chosen}
 use Rattle.drt_releases.specs.Walks.{walk_at}
 use Rattle.drt_sp.proofs.walks.job_walks.Given as goal
 

@@ -3,7 +3,7 @@ use Rattle.drt_model.specs.declared.jobs.Miss.{Miss}
 use Rattle.drt_model.specs.declared.tasks.Task.{Task}
 use Rattle.drt_model.specs.Walk.{deadline}
 use Rattle.drt_busy.specs.Choice.{graph_at}
-use Rattle.drt_choices.specs.Laws.{leaf_releases, no_releases}
+use Rattle.drt_sp.specs.ChoiceLaws.{leaf_releases, no_releases}
 use Rattle.drt_sp.specs.declared.walks.VertexTuple.{VertexTuple}
 use Rattle.drt_sp_task.specs.Trees.{IsFailing}
 use Rattle.drt_sp_task.specs.declared.given.Given.{Given}

@@ -8,7 +8,7 @@ use Rattle.drt_model.specs.Limits.{IsTaskSet}
 use Rattle.drt_graph.specs.Graphs.{graph_of}
 use Rattle.drt_busy.specs.Choice.{graph_at}
 use Rattle.drt_tree.specs.Tree.{Plain}
-use Rattle.drt_choices.specs.Choices.{FirstPass}
+use Rattle.drt_sp.specs.Choices.{FirstPass}
 use Rattle.drt_check_trees.specs.Order.{IsOrder}
 use Rattle.drt_claims.specs.declared.evidence.TreeClaim.{TreeClaim}
 use Rattle.drt_releases.proofs.Walks.{graph_same}

@@ -7,11 +7,11 @@ use Rattle.drt_busy.specs.Choice.{AreWalks, IsWalk, graph_at, request_of, task_a
 use Rattle.drt_steps.specs.Time.{sum_at}
 use Rattle.drt_tree.specs.Tree.{Plain, walk}
 use Rattle.drt_refine.specs.Below.{AreBelow}
-use Rattle.drt_choices.specs.Choices.{AreTrees, chosen}
+use Rattle.drt_sp.specs.Choices.{AreTrees, chosen}
 use Rattle.drt_busy.specs.Response.{cut}
-use Rattle.drt_choices.proofs.Asked.{AreRising, asked, rising_first, rising_tail}
+use Rattle.drt_sp.proofs.Asked.{AreRising, asked, rising_first, rising_tail}
 use Rattle.drt_busy.proofs.Cuts.{cut_walk}
-use Rattle.drt_choices.proofs.Cuts.{cut_asks}
+use Rattle.drt_sp.proofs.Cuts.{cut_asks}
 
 -- a tuple below some nodes is as long as they are
 pub below_length : (f : Plain) (tuple roots : List ℕ) → AreBelow f tuple roots → length tuple ≡ length roots

@@ -21,13 +21,13 @@ use Rattle.drt_busy.specs.Choice.{graph_at, requests, task_at}
 use Rattle.drt_busy.specs.Decide.{RequestsMiss, TimesSufficeForTask}
 use Rattle.drt_busy.specs.WalkReleases.{release_at, with_job}
 use Rattle.drt_busy.proofs.EdfWalks.{deadline_here}
-use Rattle.drt_choices.specs.Choices.{FirstPass, chosen}
+use Rattle.drt_sp.specs.Choices.{FirstPass, chosen}
 use Rattle.drt_check_trees.specs.Order.{IsOrder}
-use Rattle.drt_choices.specs.Laws.{LeavesMiss}
-use Rattle.drt_choices.proofs.Asked.{requests_asked}
-use Rattle.drt_choices.proofs.Chosen.{below_length, chosen_asked, chosen_walks}
-use Rattle.drt_choices.proofs.Covered.{order_within}
-use Rattle.drt_choices.proofs.Members.{first_job, is_higher, is_job, job_releases, of_walks}
+use Rattle.drt_sp.specs.ChoiceLaws.{LeavesMiss}
+use Rattle.drt_sp.proofs.Asked.{requests_asked}
+use Rattle.drt_sp.proofs.ChosenLeaves.{below_length, chosen_asked, chosen_walks}
+use Rattle.drt_sp.proofs.Covered.{order_within}
+use Rattle.drt_sp.proofs.Members.{first_job, is_higher, is_job, job_releases, of_walks}
 
 -- a task of higher priority than the one at place m of the order stands at an earlier place
 stands_first : (tasks : List Task) (order : List ℕ) → IsOrder tasks order → (m k a : ℕ) → slice_get order m ≡ Some k → a < length tasks

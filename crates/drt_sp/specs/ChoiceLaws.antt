@@ -17,7 +17,7 @@ use Rattle.drt_busy.specs.WalkReleases.{all_releases, release_at, with_job}
 use Rattle.drt_steps.specs.Time.{IsLeastTime, Passes}
 use Rattle.drt_tree.specs.Tree.{Plain}
 use Rattle.drt_refine.specs.Below.{AreBelow}
-use Rattle.drt_choices.specs.Choices.{AreTrees, FirstPass, IsSubjectAt, VertexPasses, chosen}
+use Rattle.drt_sp.specs.Choices.{AreTrees, FirstPass, IsSubjectAt, VertexPasses, chosen}
 use Rattle.drt_check_trees.specs.Order.{IsOrder}
 
 -- A set in order, the trees of the tasks at the first places, and a vertex of the task at the next place.

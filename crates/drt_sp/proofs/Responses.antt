@@ -13,12 +13,12 @@ use Rattle.drt_busy.specs.WalkReleases.{all_releases, with_job}
 use Rattle.drt_steps.specs.Time.{sum_at}
 use Rattle.drt_tree.specs.Tree.{Plain, walk}
 use Rattle.drt_refine.specs.Below.{AreBelow}
-use Rattle.drt_choices.specs.Choices.{chosen}
+use Rattle.drt_sp.specs.Choices.{chosen}
 use Rattle.drt_busy.specs.Response.{cut, cut_from}
-use Rattle.drt_choices.specs.Laws.{IsPosed, LeavesRespond, WalksPass, leaf_releases, AreReachingReleases}
-use Rattle.drt_choices.proofs.Asked.{requests_asked}
-use Rattle.drt_choices.proofs.Chosen.{below_length, chosen_asked, chosen_walks}
-use Rattle.drt_choices.proofs.Covered.{covering, order_within}
+use Rattle.drt_sp.specs.ChoiceLaws.{IsPosed, LeavesRespond, WalksPass, leaf_releases, AreReachingReleases}
+use Rattle.drt_sp.proofs.Asked.{requests_asked}
+use Rattle.drt_sp.proofs.ChosenLeaves.{below_length, chosen_asked, chosen_walks}
+use Rattle.drt_sp.proofs.Covered.{covering, order_within}
 
 -- a walk that was cut is cut
 cut_from_again : (g : Digraph) (d x u : ℕ) (vs : List ℕ) → cut_from g d x u (cut_from g d x u vs) ≡ cut_from g d x u vs

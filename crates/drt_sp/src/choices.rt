@@ -1,5 +1,5 @@
 //! What trees say of the walks of the tasks.
-ghost use Rattle.drt_choices.specs.Laws.{LeavesMiss, LeavesPass, LeavesRespond, WalksPass};
+ghost use Rattle.drt_sp.specs.ChoiceLaws.{LeavesMiss, LeavesPass, LeavesRespond, WalksPass};
 
 use drt_busy::{releases_reach, requests_miss, response_decides, times_suffice_for_task};
 

@@ -24,13 +24,13 @@ use Rattle.drt_busy.proofs.FixedWalks.{times_suffice_for_task}
 use Rattle.drt_steps.specs.Values.{value_at}
 use Rattle.drt_tree.specs.Tree.{IsUnder, Plain, plain, node_values_in, walk}
 use Rattle.drt_refine.specs.Below.{AreBelow}
-use Rattle.drt_choices.specs.Choices.{FirstPass, StandsFor, VertexPasses, chosen}
+use Rattle.drt_sp.specs.Choices.{FirstPass, StandsFor, VertexPasses, chosen}
 use Rattle.drt_check_trees.specs.Order.{IsOrder}
 use Rattle.drt_busy.specs.Response.{cut, cut_from}
-use Rattle.drt_choices.specs.Laws.{IsPosed, PassesAt, no_releases}
-use Rattle.drt_choices.proofs.Covered.{leaves_pass}
-use Rattle.drt_choices.proofs.Cuts.{none_before}
-use Rattle.drt_choices.proofs.Missed.{leaves_miss}
+use Rattle.drt_sp.specs.ChoiceLaws.{IsPosed, PassesAt, no_releases}
+use Rattle.drt_sp.proofs.Covered.{leaves_pass}
+use Rattle.drt_sp.proofs.Cuts.{none_before}
+use Rattle.drt_sp.proofs.Missed.{leaves_miss}
 
 abbrev pub vertex : ℕ → Vertex
 vertex wcet = record { name = codes "a"; wcet = wcet; deadline = 4 }

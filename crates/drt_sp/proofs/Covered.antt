@@ -9,10 +9,10 @@ use Rattle.drt_busy.specs.Choice.{AreWalks}
 use Rattle.drt_steps.specs.Time.{sum_at}
 use Rattle.drt_tree.specs.Tree.{Plain}
 use Rattle.drt_refine.specs.Below.{AreBelow}
-use Rattle.drt_choices.specs.Choices.{AreTrees}
+use Rattle.drt_sp.specs.Choices.{AreTrees}
 use Rattle.drt_check_trees.specs.Order.{IsOrder}
-use Rattle.drt_choices.specs.Laws.{LeavesPass}
-use Rattle.drt_choices.proofs.Asked.{asked, requests_asked}
+use Rattle.drt_sp.specs.ChoiceLaws.{LeavesPass}
+use Rattle.drt_sp.proofs.Asked.{asked, requests_asked}
 
 -- the order has numbers of tasks
 pub order_within : (tasks : List Task) (order : List ℕ) → IsOrder tasks order → All (λ j. j < length tasks) order
