@@ -7,13 +7,14 @@ use Rattle.std.proofs.lemmas.List.Sums.{sum_by-cons}
 use Rattle.drt_model.specs.declared.jobs.Policy.TheVariants.{Fixed}
 use Rattle.drt_model.specs.declared.tasks.Task.{Task}
 use Rattle.drt_model.specs.Constrained.{AreConstrained}
-use Rattle.drt_model.specs.Limits.{IsPriority, IsTaskSet, most_tasks, most_time}
+use Rattle.drt_model.specs.Limits.{IsPriority, IsTaskSet, most_tasks}
 use Rattle.drt_model.specs.Schedulable.{Schedulable}
 use Rattle.drt_busy.specs.Decide.{TimesDecide}
 use Rattle.drt_priorities.specs.Priorities.{ArePriorities, OrderExists, prioritised}
 use Rattle.drt_priorities.proofs.Prioritised.{keep_constraints, keep_limits, length-prioritised}
 use Rattle.drt_assign.specs.Rule.{AreRanks, FollowRule, PassesUnder, is_other}
 use Rattle.drt_assign.proofs.Passing.{above_in, passes_from_under, passes_under_fewer, under_from_passes}
+use Rattle.drt_model.specs.Numbers.{most_time}
 
 -- Who is another of rank at most m.
 pub other_of : (ranks : List ℕ) (m k j : ℕ) → get_or ranks j 0 ≤ m → j ≢ k → is_other ranks m k j ≡ true

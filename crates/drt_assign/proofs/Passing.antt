@@ -3,8 +3,8 @@ use Rattle.std.proofs.Common.{◌≡◌, ℕ, zero, suc, ◌+◌, ◌<◌, ◌�
 use Rattle.std.proofs.lemmas.Bool.{cases_Bool}
 use Rattle.drt_model.specs.declared.tasks.Task.{Task}
 use Rattle.drt_model.specs.Digraph.{Digraph, vertex_count}
-use Rattle.drt_model.specs.Walk.{deadline, wcet}
-use Rattle.drt_busy.specs.Choice.{AreWalks, IsWalk, graph_at, no_task, request_of, requests, task_at}
+use Rattle.drt_model.specs.Walk.{deadline, wcet, IsWalk, request_of}
+use Rattle.drt_busy.specs.Choice.{AreWalks, graph_at, no_task, requests, task_at}
 use Rattle.drt_priorities.specs.Priorities.{prioritised}
 use Rattle.drt_priorities.proofs.Prioritised.{get_or-prioritised, graph_stays, length-prioritised}
 use Rattle.drt_assign.specs.Rule.{PassesUnder, asked_by}

@@ -4,8 +4,8 @@ use Rattle.std.specs.Prelude.{◌≡◌, ◌≢◌, ℕ, zero, suc, ◌+◌, ◌
 use Rattle.std.specs.List.{range_with_len}
 use Rattle.drt_model.specs.declared.tasks.Task.{Task}
 use Rattle.drt_model.specs.Digraph.{vertex_count}
-use Rattle.drt_model.specs.Walk.{deadline, wcet}
-use Rattle.drt_busy.specs.Choice.{AreWalks, graph_at, request_of}
+use Rattle.drt_model.specs.Walk.{deadline, wcet, request_of}
+use Rattle.drt_busy.specs.Choice.{AreWalks, graph_at}
 use Rattle.drt_priorities.specs.Priorities.{ArePriorities}
 
 -- What the walks of those of the first n tasks that pass a test ask for before t.

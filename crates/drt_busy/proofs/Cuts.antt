@@ -4,10 +4,9 @@ use Rattle.std.proofs.lemmas.Bool.{cases_Bool, ltb-true, ltb-false, lt-ltb, le-l
 use Rattle.drt_model.specs.declared.tasks.Task.{Task}
 use Rattle.drt_model.specs.declared.jobs.Release.{Release}
 use Rattle.drt_model.specs.Digraph.{Digraph}
-use Rattle.drt_model.specs.RequestFunction.{requested_from}
-use Rattle.drt_model.specs.Walk.{gap, wcet, IsPath}
+use Rattle.drt_model.specs.Walk.{gap, wcet, IsPath, requested_from, IsWalk, request_of}
 use Rattle.drt_model.proofs.Neighbours.{filter-yes, filter-no}
-use Rattle.drt_busy.specs.Choice.{AreWalks, IsWalk, graph_at, request_of, requests}
+use Rattle.drt_busy.specs.Choice.{AreWalks, graph_at, requests}
 use Rattle.drt_busy.specs.WalkReleases.{release_at, releases_from, releases_of}
 use Rattle.drt_busy.specs.Response.{cut_from, cut}
 

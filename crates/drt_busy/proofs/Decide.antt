@@ -13,9 +13,9 @@ use Rattle.drt_model.specs.Legal.{IsLegal}
 use Rattle.drt_model.specs.Limits.{IsTaskSet, IsVertex}
 use Rattle.drt_model.specs.Schedulable.{job_of, jobs_of}
 use Rattle.drt_model.specs.Trace.{job_at}
-use Rattle.drt_model.specs.Walk.{deadline, wcet}
+use Rattle.drt_model.specs.Walk.{deadline, wcet, IsWalk, request_of}
 use Rattle.drt_model.proofs.JobLemmas.{no_release, length-jobs_of, job_at-jobs_of}
-use Rattle.drt_busy.specs.Choice.{AreWalks, IsWalk, efforts, graph_at, no_task, request_of, requests, task_at}
+use Rattle.drt_busy.specs.Choice.{AreWalks, efforts, graph_at, no_task, requests, task_at}
 use Rattle.drt_busy.specs.Decide.{DeadlinesDecide, DemandMisses, RequestsMiss, TimesDecide}
 use Rattle.drt_busy.specs.Needs.{AreTimed, is_above, is_due, needs}
 use Rattle.drt_busy.specs.WalkReleases.{all_releases, release_at, releases_from, releases_of, with_job}

@@ -18,10 +18,10 @@ use Rattle.drt_model.specs.Legal.{IsLegal, IsLegalPart, Follows, part_of}
 use Rattle.drt_model.specs.Limits.{IsTaskSet, IsTask, IsVertex}
 use Rattle.drt_model.specs.Schedulable.{Schedulable, job_of, jobs_of, deadline_of}
 use Rattle.drt_model.specs.Trace.{job_at, Misses}
-use Rattle.drt_model.specs.Walk.{deadline, work}
+use Rattle.drt_model.specs.Walk.{deadline, work, due_of}
 use Rattle.drt_model.proofs.JobLemmas.{no_release, known, deadline_of_known, job_at-jobs_of}
 use Rattle.drt_model.proofs.LegalLemmas.{allowed_if_legal}
-use Rattle.drt_busy.specs.Choice.{AreDueBy, AreWalks, due_of, efforts, graph_at, no_task, task_at}
+use Rattle.drt_busy.specs.Choice.{AreDueBy, AreWalks, efforts, graph_at, no_task, task_at}
 use Rattle.drt_busy.specs.Needs.{needs, is_due}
 use Rattle.drt_busy.specs.PartWalk.{walk_of}
 use Rattle.drt_busy.proofs.ByTask.{of_task, of_task-part, task_sums, sum-by_task, sum-map}

@@ -14,10 +14,10 @@ use Rattle.drt_model.specs.Legal.{IsLegal, IsLegalPart, part_of}
 use Rattle.drt_model.specs.Limits.{IsTaskSet, IsTask}
 use Rattle.drt_model.specs.Schedulable.{Schedulable, job_of, jobs_of, priority_of}
 use Rattle.drt_model.specs.Trace.{job_at, Misses}
-use Rattle.drt_model.specs.Walk.{deadline, wcet}
+use Rattle.drt_model.specs.Walk.{deadline, wcet, request_of}
 use Rattle.drt_model.proofs.JobLemmas.{no_release, known, deadline_of_known, job_at-jobs_of}
 use Rattle.drt_model.proofs.LegalLemmas.{allowed_if_legal}
-use Rattle.drt_busy.specs.Choice.{AreWalks, graph_at, no_task, request_of, requests, task_at}
+use Rattle.drt_busy.specs.Choice.{AreWalks, graph_at, no_task, requests, task_at}
 use Rattle.drt_busy.specs.Decide.{TimesSufficeForTask}
 use Rattle.drt_busy.specs.Needs.{needs, is_above}
 use Rattle.drt_busy.specs.PartWalk.{walk_of}

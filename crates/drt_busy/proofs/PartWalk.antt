@@ -14,10 +14,8 @@ use Rattle.drt_model.specs.declared.tasks.Vertex.{Vertex}
 use Rattle.drt_model.specs.Digraph.{digraph_of, edges_from, out_edges, no_vertex}
 use Rattle.drt_model.specs.Legal.{AllNeighbours, IsReleaseOf, Follows, IsLegalPart}
 use Rattle.drt_model.specs.Limits.{IsTask, IsEdgeAmong}
-use Rattle.drt_model.specs.RequestFunction.{requested_from}
-use Rattle.drt_model.specs.Walk.{sep_in, sep, or_zero, gap, IsEdge, IsPath, wcet, deadline, last_of, span, work}
+use Rattle.drt_model.specs.Walk.{sep_in, sep, or_zero, gap, IsEdge, IsPath, wcet, deadline, last_of, span, work, requested_from, IsWalk}
 use Rattle.drt_model.proofs.Neighbours.{filter-yes, filter-no, AllNeighbours-tail, AllNeighbours-head}
-use Rattle.drt_busy.specs.Choice.{IsWalk}
 use Rattle.drt_busy.specs.PartWalk.{walk_of}
 
 -- one edge each way

@@ -11,12 +11,11 @@ use Rattle.drt_model.specs.Constrained.{AreConstrained, IsConstrainedEdge}
 use Rattle.drt_model.specs.Digraph.{Digraph, digraph_of, edges_from, vertex_count, no_vertex}
 use Rattle.drt_model.specs.Legal.{AllNeighbours, Follows, IsAllowed, IsAllowedStep, IsLegal, IsReleaseOf}
 use Rattle.drt_model.specs.Limits.{IsTaskSet, IsTask, IsEdgeAmong, IsVertex}
-use Rattle.drt_model.specs.RequestFunction.{requested_from}
 use Rattle.drt_model.specs.Schedulable.{job_of, jobs_of, deadline_of}
-use Rattle.drt_model.specs.Walk.{sep_in, gap, IsEdge, IsPath, wcet, deadline, last_of, span, work}
+use Rattle.drt_model.specs.Walk.{sep_in, gap, IsEdge, IsPath, wcet, deadline, last_of, span, work, requested_from, IsWalk, due_of, request_of}
 use Rattle.drt_model.proofs.LegalLemmas.{legal_if_allowed}
 use Rattle.drt_model.proofs.Neighbours.{filter-yes, filter-no, AllNeighbours-nil, AllNeighbours-one, AllNeighbours-cons, AllNeighbours-head, AllNeighbours-tail}
-use Rattle.drt_busy.specs.Choice.{AreDueBy, AreWalks, IsWalk, due_of, efforts, graph_at, no_task, request_of, requests, task_at}
+use Rattle.drt_busy.specs.Choice.{AreDueBy, AreWalks, efforts, graph_at, no_task, requests, task_at}
 use Rattle.drt_busy.specs.Needs.{needs, is_above, is_due}
 use Rattle.drt_busy.specs.WalkReleases.{all_releases, release_at, releases_from, releases_of}
 use Rattle.drt_busy.proofs.ByTask.{sum-map}

@@ -5,8 +5,7 @@ use Rattle.drt_model.specs.declared.tasks.Task.{Task}
 use Rattle.drt_model.specs.Digraph.{digraph_of}
 use Rattle.drt_model.specs.Legal.{IsLegalPart}
 use Rattle.drt_model.specs.Limits.{IsTask}
-use Rattle.drt_model.specs.Walk.{deadline, work}
-use Rattle.drt_busy.specs.Choice.{IsWalk, due_of, request_of}
+use Rattle.drt_model.specs.Walk.{deadline, work, IsWalk, due_of, request_of}
 
 -- The vertices of some releases, in order.
 abbrev pub walk_of : List Release → List ℕ

@@ -4,7 +4,7 @@ use Rattle.drt_model.specs.Contents.{Contents}
 use Rattle.drt_model.specs.Digraph.{Digraph}
 use Rattle.drt_graph.specs.Horizon.{horizon}
 use Rattle.drt_model.specs.declared.jobs.Policy.{Policy}
-use Rattle.drt_claims.specs.Claims.{graphs_of, Each, fractions, potentials, IsHorizon}
+use Rattle.drt_claims.specs.Claims.{graphs_of, fractions, potentials, IsHorizon}
 use Rattle.drt_claims.specs.Fronts.{HasOpenings, IsClosedFront, IsOrdered}
 use Rattle.drt_claims.specs.Rules.{Accepts}
 use Rattle.drt_claims.specs.declared.evidence.Evidence.TheVariants.{EdfYes, FixedStates, FixedYes, UtilisationOne}
@@ -20,6 +20,7 @@ use Rattle.drt_claims.proofs.Accepting.{IsEdfYes, IsFixedStates, IsFixedYes, IsU
 use Rattle.drt_graph.proofs.Scales.{scale_same}
 use Rattle.drt_states.specs.declared.claims.SearchClaim.{SearchClaim}
 use Rattle.drt_states.specs.declared.claims.TailClaim.{TailClaim}
+use Rattle.drt_model.specs.Each.{Each}
 
 -- There is one horizon.
 pub horizon_same : (graphs : List Digraph) (ratios : List RatioClaim) (b c : ℕ) → IsHorizon graphs ratios b → IsHorizon graphs ratios c → b ≡ c

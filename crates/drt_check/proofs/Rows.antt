@@ -3,11 +3,11 @@ use Rattle.std.proofs.Common.{◌≡◌, ℕ, ◌<◌, ◌≤◌, ◌^◌, Bool,
 use Rattle.std.specs.Prelude.{◌↔◌, IsTrue, nat_le, nat_lt, nat_eq}
 use Rattle.std.proofs.lemmas.Bool.Decides.{nat_tests}
 use Rattle.std.proofs.lemmas.List.{length-map}
-use Rattle.drt_graph.specs.Horizon.{most_horizon}
+use Rattle.drt_model.specs.Numbers.{most_horizon}
 use Rattle.drt_model.specs.Digraph.{Digraph, digraph_of}
 use Rattle.drt_model.specs.Utilisation.{IsScale, rate}
 use Rattle.drt_model.specs.declared.tasks.Task.{Task}
-use Rattle.drt_claims.specs.Claims.{graphs_of, Each, fractions, HaveUtilisationBelowOne, HaveUtilisationOne, IsFine, IsHorizon}
+use Rattle.drt_claims.specs.Claims.{graphs_of, fractions, HaveUtilisationBelowOne, HaveUtilisationOne, IsFine, IsHorizon}
 use Rattle.drt_claims.specs.Fronts.{IsOrdered}
 use Rattle.drt_claims.specs.Kinds.{HasFronts, HasRatios, fronts_of, ratios_of}
 use Rattle.drt_claims.specs.Rules.{HasClaimedUtilisation, Keeps, number_of}
@@ -23,6 +23,7 @@ use Rattle.drt_check_fronts.specs.FrontOrder.{AreFrontsInOrder}
 use Rattle.drt_check.proofs.Accepted.{at_horizon}
 use Rattle.drt_graph.proofs.Scales.{scale_same}
 use Rattle.drt_check_fronts.proofs.Eachs.{each_count}
+use Rattle.drt_model.specs.Each.{Each}
 
 -- Evidence with fronts has ratios, and the utilisation that it claims is below one.
 ratios_too : (e : Evidence) → HasFronts e → HasRatios e

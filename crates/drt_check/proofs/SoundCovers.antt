@@ -5,12 +5,10 @@ use Rattle.std.proofs.lemmas.Bool.{le-ltb}
 use Rattle.std.proofs.lemmas.Bool.Decides.{nat_tests}
 use Rattle.std.proofs.lemmas.List.{append-nil, get_or_default}
 use Rattle.drt_model.specs.Digraph.{Digraph, edge_of, out_degree}
-use Rattle.drt_model.specs.RequestFunction.{request, requested_from}
-use Rattle.drt_model.specs.Walk.{IsEdge, IsPath, gap, last_of, span, wcet}
+use Rattle.drt_model.specs.Walk.{IsEdge, IsPath, gap, last_of, span, wcet, request, requested_from, IsWalk, request_of}
 use Rattle.drt_graph.proofs.Edges.{edge_of_sep}
 use Rattle.drt_graph.proofs.Paths.{last_both, span_both, span_cons, span_none}
-use Rattle.drt_busy.specs.Choice.{IsWalk, request_of}
-use Rattle.drt_claims.specs.Trees.{CoversWalks, IsAbove, IsClosedWalk, IsExtendedWalk, asked}
+use Rattle.drt_claims.specs.Trees.{CoversWalks, IsAbove, IsClosedWalk, IsExtendedWalk}
 use Rattle.drt_claims.specs.declared.evidence.TreeClaim.{TreeClaim}
 
 -- A walk that is released at x or later asks for nothing before t, where t is at most x.
@@ -78,7 +76,7 @@ above_more g bound u vs x xs v y ys (last, spans, asks) (last_more, spans_more, 
 
 -- Up to the bound a walk of the tree asks for at least as much as the walk.
 abbrev pub IsMet : ℕ → Digraph → TreeClaim → (ℕ → ℕ) → Type 0
-IsMet bound g tree asks = (n : ℕ) × (n < length tree.walks) × ((t : ℕ) → 1 ≤ t → t ≤ bound → asks t ≤ asked g t (slice_index_or tree.walks n []))
+IsMet bound g tree asks = (n : ℕ) × (n < length tree.walks) × ((t : ℕ) → 1 ≤ t → t ≤ bound → asks t ≤ request_of g (slice_index_or tree.walks n []) t)
 
 -- What a closed tree says of a walk of it.
 walk_closed : (g : Digraph) (bound : ℕ) (tree : TreeClaim) → All (IsClosedWalk bound g tree) tree.walks
@@ -89,10 +87,10 @@ walk_closed g bound tree closed i x xs l at = subst (λ w. IsClosedWalk bound g 
 -- A walk of the tree that is above another one asks up to the bound for at least as much.
 asked_above : (g : Digraph) (bound : ℕ) (tree : TreeClaim) (u : ℕ) (vs : List ℕ) (i x : ℕ) (xs : List ℕ) → i < length tree.walks
     → slice_index_or tree.walks i (x ∷ xs) ≡ x ∷ xs → IsAbove bound g u vs (x ∷ xs)
-    → (t : ℕ) → 1 ≤ t → t ≤ bound → request g u vs t ≤ asked g t (slice_index_or tree.walks i [])
+    → (t : ℕ) → 1 ≤ t → t ≤ bound → request g u vs t ≤ request_of g (slice_index_or tree.walks i []) t
 asked_above g bound tree u vs i x xs l at above t a b =
     let walk : slice_index_or tree.walks i [] ≡ x ∷ xs = get_or_default tree.walks i [] (x ∷ xs) l ∙ at in
-    let e : asked g t (slice_index_or tree.walks i []) ≡ request g x xs t = ap (asked g t) walk in
+    let e : request_of g (slice_index_or tree.walks i []) t ≡ request g x xs t = ap (λ walk. request_of g walk t) walk in
     omega (arith, above.2 t a b, e)
 
 -- Up to the bound a walk that goes on past it asks for no more than its first part.

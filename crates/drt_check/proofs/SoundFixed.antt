@@ -10,7 +10,7 @@ use Rattle.drt_model.specs.Limits.{IsTaskSet}
 use Rattle.drt_model.specs.Schedulable.{Schedulable}
 use Rattle.drt_busy.specs.Choice.{AreWalks, graph_at, no_task, task_at}
 use Rattle.drt_busy.specs.Decide.{TimesDecide}
-use Rattle.drt_claims.specs.Claims.{Each}
+use Rattle.drt_model.specs.Each.{Each}
 use Rattle.drt_claims.specs.Proofs.{HasPassingTime, after_all, opening_stack, passes}
 use Rattle.drt_claims.specs.Trees.{CoversWalks, greatest_deadline, higher_count, root, tree_graphs}
 use Rattle.drt_claims.specs.declared.evidence.ProofClaim.{ProofClaim}

@@ -5,16 +5,17 @@ use Rattle.std.proofs.Math.Nat.{le-max_left, le-max_right}
 use Rattle.std.proofs.lemmas.Bool.{le-leb}
 use Rattle.drt_model.specs.declared.tasks.Task.{Task}
 use Rattle.drt_model.specs.Digraph.{Digraph, IsConstrainedGraph, IsSoundGraph, digraph_of, edge_of, out_degree, vertex_count}
-use Rattle.drt_model.specs.Walk.{IsEdge, IsPath, deadline, gap, last_of, span, wcet, work}
+use Rattle.drt_model.specs.Walk.{IsEdge, IsPath, deadline, gap, last_of, span, wcet, work, IsWalk, due_of}
 use Rattle.drt_graph.proofs.Edges.{edge_of_sep, target_of}
 use Rattle.drt_graph.proofs.Paths.{span_cons, span_none, work_cons, work_none}
-use Rattle.drt_busy.specs.Choice.{AreDueBy, AreWalks, IsWalk, due_of, efforts}
+use Rattle.drt_busy.specs.Choice.{AreDueBy, AreWalks, efforts}
 use Rattle.drt_sweep.specs.Dues.{sum_due}
 use Rattle.drt_graph.specs.declared.front.FrontEntry.{FrontEntry}
-use Rattle.drt_claims.specs.Claims.{Each, graphs_of}
+use Rattle.drt_claims.specs.Claims.{graphs_of}
 use Rattle.drt_graph.specs.FrontEntry.{due, Covers}
 use Rattle.drt_claims.specs.Fronts.{HasOpenings, IsClosedFront, IsExtended, work_due, works_due}
 use Rattle.drt_check.proofs.SoundWalks.{efforts_cons, efforts_none}
+use Rattle.drt_model.specs.Each.{Each}
 
 -- With constrained deadlines the first vertex of a walk is due by the walk's last deadline.
 first_due : (g : Digraph) → IsConstrainedGraph g → (v : ℕ) (vs : List ℕ) → v < vertex_count g → IsPath g v vs → deadline g v ≤ span g v vs + deadline g (last_of v vs)

@@ -7,10 +7,10 @@ use Rattle.drt_model.specs.Digraph.{Digraph, IsSoundGraph, digraph_of}
 use Rattle.drt_graph.specs.Horizon.{above_zero, constant_of, extra}
 use Rattle.drt_graph.specs.RatioRules.{FitPotentials}
 use Rattle.drt_model.specs.Utilisation.{EachDivides, rate}
-use Rattle.drt_model.specs.Walk.{work}
+use Rattle.drt_model.specs.Walk.{work, IsWalk, due_of}
 use Rattle.drt_graph.proofs.Bounds.{beyond, scaled_work}
 use Rattle.drt_graph.proofs.Paths.{work_none}
-use Rattle.drt_busy.specs.Choice.{AreDueBy, AreWalks, IsWalk, due_of, efforts}
+use Rattle.drt_busy.specs.Choice.{AreDueBy, AreWalks, efforts}
 use Rattle.drt_claims.specs.declared.evidence.RatioClaim.{RatioClaim}
 use Rattle.drt_claims.specs.Claims.{HaveFittingPotentials, HaveUtilisationBelowOne, IsHorizon, fractions, graphs_of, potentials}
 use Rattle.drt_graph.proofs.Scales.{scale_same}

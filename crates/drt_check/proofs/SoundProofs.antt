@@ -4,15 +4,16 @@ use Rattle.std.specs.Prelude.{All, Option, slice_get, slice_index_or, slice_set}
 use Rattle.std.proofs.lemmas.List.Elements.{All-head, All-tail}
 use Rattle.std.proofs.lemmas.Option.{none-some}
 use Rattle.drt_model.specs.Digraph.{Digraph, digraph_of}
-use Rattle.drt_claims.specs.Claims.{Each}
+use Rattle.drt_model.specs.Each.{Each}
 use Rattle.drt_claims.specs.Proofs.{after_all, halved, parts_in, passes, tree_sum_at}
-use Rattle.drt_claims.specs.Trees.{CoversWalks, IsTree, asked, root}
+use Rattle.drt_claims.specs.Trees.{CoversWalks, IsTree, root}
 use Rattle.drt_claims.specs.declared.evidence.Item.{Item}
 use Rattle.drt_claims.specs.declared.evidence.Item.TheVariants.{Pass, Split}
 use Rattle.drt_claims.specs.declared.evidence.TreeClaim.{TreeClaim}
 use Rattle.drt_check.proofs.SoundCovers.{walk_met}
 use Rattle.drt_check.proofs.SoundOrder.{AreWalked, Walked, tasks_of, total_first}
 use Rattle.drt_check.proofs.SoundTrees.{IsUnder, under_most, under_part, under_root}
+use Rattle.drt_model.specs.Walk.{request_of}
 
 -- There is a leaf for each node of the combination, and it is under that node.
 abbrev pub AreUnder : List ℕ → List ℕ → List TreeClaim → Type 0
@@ -27,7 +28,7 @@ unfoldable pub leaves_at : List Digraph → List TreeClaim → List ℕ → ℕ 
 leaves_at graphs trees [] t = 0
 leaves_at [] trees (l ∷ leaves) t = 0
 leaves_at (g ∷ graphs) [] (l ∷ leaves) t = 0
-leaves_at (g ∷ graphs) (tree ∷ trees) (l ∷ leaves) t = asked g t (slice_index_or tree.walks l []) + leaves_at graphs trees leaves t
+leaves_at (g ∷ graphs) (tree ∷ trees) (l ∷ leaves) t = request_of g (slice_index_or tree.walks l []) t + leaves_at graphs trees leaves t
 
 -- Leaves under a combination ask for at most its values.
 pub leaves_most : (graphs : List Digraph) (trees : List TreeClaim) → All IsTree trees → (leaves nodes : List ℕ) → AreUnder leaves nodes trees

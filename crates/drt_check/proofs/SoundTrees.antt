@@ -12,6 +12,7 @@ use Rattle.drt_claims.specs.Proofs.{node_parts, parts_of}
 use Rattle.drt_claims.specs.Trees.{IsTree, asked, joined, named, node_values, root}
 use Rattle.drt_claims.specs.declared.evidence.Pair.{Pair}
 use Rattle.drt_claims.specs.declared.evidence.TreeClaim.{TreeClaim}
+use Rattle.drt_model.specs.Walk.{request_of}
 
 -- The leaf is the node, or it is under one of the node's parts.
 pub data IsUnder (tree : TreeClaim) (leaf : ℕ) : ℕ → Type 0 where
@@ -157,18 +158,18 @@ joined_pair values (q ∷ pairs) (suc i) p at left right =
 
 -- A leaf asks for at most the value of each node that it is under.
 pub under_most : (g : Digraph) (tree : TreeClaim) → IsTree tree → (t leaf : ℕ) → leaf < length tree.walks → (n : ℕ) → IsUnder tree leaf n
-    → asked g t (slice_index_or tree.walks leaf []) ≤ slice_index_or (node_values g tree t) n 0
+    → request_of g (slice_index_or tree.walks leaf []) t ≤ slice_index_or (node_values g tree t) n 0
 under_most g tree is t leaf l n (itself k e) =
-    let values : List ℕ = map (asked g t) tree.walks in
-    let long : length values ≡ length tree.walks = length-map tree.walks (asked g t) in
+    let values : List ℕ = map (λ walk. request_of g walk t) tree.walks in
+    let long : length values ≡ length tree.walks = length-map tree.walks (λ walk. request_of g walk t) in
     let first = joined_first values tree.pairs leaf (omega (arith, long, l)) in
-    let of_walk = get_or-map (asked g t) tree.walks leaf [] 0 l in
+    let of_walk = get_or-map (λ walk. request_of g walk t) tree.walks leaf [] 0 l in
     let there : slice_index_or (joined values tree.pairs) n 0 ≡ slice_index_or (joined values tree.pairs) leaf 0 = ap (λ k. slice_index_or (joined values tree.pairs) k 0) e in
     omega (arith, first, of_walk, there)
 under_most g tree is t leaf l n (below k m p at which under) = go which (under_most g tree is t leaf l m under)
   where
     values : List ℕ
-    values = map (asked g t) tree.walks
+    values = map (λ walk. request_of g walk t) tree.walks
 
     value : ℕ → ℕ
     value k = slice_index_or (joined values tree.pairs) k 0
@@ -180,7 +181,7 @@ under_most g tree is t leaf l n (below k m p at which under) = go which (under_m
     greatest =
         let i : ℕ = n - length tree.walks in
         let a = q.after in
-        let long : length values ≡ length tree.walks = length-map tree.walks (asked g t) in
+        let long : length values ≡ length tree.walks = length-map tree.walks (λ walk. request_of g walk t) in
         let left = is.left i q.pair q.at in
         let right = is.right i q.pair q.at in
         let here = joined_pair values tree.pairs i q.pair q.at (omega (arith, long, left)) (omega (arith, long, right)) in
@@ -189,6 +190,6 @@ under_most g tree is t leaf l n (below k m p at which under) = go which (under_m
         let c : value q.pair.right ≡ value p.1 = ap value q.right in
         omega (arith, here, there, b, c)
 
-    go : (m ≡ p.0) ⊎ (m ≡ p.1) → asked g t (slice_index_or tree.walks leaf []) ≤ value m → asked g t (slice_index_or tree.walks leaf []) ≤ value n
+    go : (m ≡ p.0) ⊎ (m ≡ p.1) → request_of g (slice_index_or tree.walks leaf []) t ≤ value m → request_of g (slice_index_or tree.walks leaf []) t ≤ value n
     go (inl e) most = let s : value m ≡ value p.0 = ap value e in omega (arith, most, s, greatest)
     go (inr e) most = let s : value m ≡ value p.1 = ap value e in omega (arith, most, s, greatest)

@@ -1,6 +1,6 @@
 -- What is found of a statement, rule by rule.
 use Rattle.std.specs.Prelude.{◌≡◌, ℕ, ◌<◌, ◌≤◌, IfSome, List, Option, Some, None, length}
-use Rattle.drt_graph.specs.Horizon.{most_horizon}
+use Rattle.drt_model.specs.Numbers.{most_horizon}
 use Rattle.drt_model.specs.Digraph.{Digraph}
 use Rattle.drt_claims.specs.Claims.{graphs_of, IsFine, HaveUtilisationBelowOne, IsHorizon}
 use Rattle.drt_claims.specs.Kinds.{ratios_of}

@@ -1,9 +1,10 @@
 //! The rules of claimed ratios that need no common scale.
 ghost use Rattle.std.specs.Prelude.{◌≡◌, ◌↔◌, All, IsTrue, length};
 ghost use Rattle.std.specs.Int.{IsGcd};
-ghost use Rattle.drt_claims.specs.Claims.{Each, AreLowest};
+ghost use Rattle.drt_claims.specs.Claims.{AreLowest};
 ghost use Rattle.drt_claims.specs.Ranges.{IsInRangeRatio};
 ghost use Rattle.drt_check.specs.Claimed.{KeepsRatioRule};
+ghost use Rattle.drt_model.specs.Each.{Each};
 
 use drt_claims::RatioClaim;
 use drt_graph::{Graph, Graphs, is_closed, is_tight, potentials_fit};

@@ -3,8 +3,9 @@ ghost use Rattle.std.specs.Prelude.{◌≡◌, ℕ, ◌+◌, ◌≤◌, ◌↔�
 ghost use Rattle.drt_model.specs.Legal.{IsLegal};
 ghost use Rattle.drt_model.specs.Misses.{IsLeastMiss};
 ghost use Rattle.drt_model.specs.Schedulable.{deadline_of, jobs_of};
-ghost use Rattle.drt_claims.specs.Ranges.{AreInRangeReleases, IsInRangeRelease, most_ticks};
+ghost use Rattle.drt_claims.specs.Ranges.{AreInRangeReleases, IsInRangeRelease};
 ghost use Rattle.drt_check.specs.Named.{IsReleasePlace, NamesJob};
+ghost use Rattle.drt_model.specs.Numbers.{most_ticks};
 
 use drt_model::{Memory, Miss, Policy, Release, Task, TaskSet};
 use drt_replay::Board;

@@ -1,9 +1,10 @@
 //! What claimed ratios come to: whether their utilisation is the claimed one, and the horizon that they give.
 ghost use Rattle.std.specs.Prelude.{◌≡◌, ◌≤◌, ◌^◌, ◌↔◌, All, IfSome, IsTrue, Some, length};
-ghost use Rattle.drt_model.specs.Utilisation.{IsScale, most_scale};
+ghost use Rattle.drt_model.specs.Utilisation.{IsScale};
 ghost use Rattle.drt_claims.specs.Claims.{HaveUtilisationBelowOne, HaveUtilisationOne, IsFine, IsHorizon, fractions};
 ghost use Rattle.drt_claims.specs.Ranges.{IsInRangeRatio};
 ghost use Rattle.drt_check.specs.Deciding.{HaveHorizon, HaveNearHorizon};
+ghost use Rattle.drt_model.specs.Numbers.{most_scale};
 
 use crate::rated::Claimed;
 use drt_claims::RatioClaim;

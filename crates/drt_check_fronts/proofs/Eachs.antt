@@ -4,7 +4,7 @@ use Rattle.std.proofs.lemmas.Bool.{cases_lt}
 use Rattle.std.proofs.lemmas.List.{get_or_default}
 use Rattle.drt_model.specs.Digraph.{Digraph}
 use Rattle.drt_graph.specs.Graphs.{graph_of}
-use Rattle.drt_claims.specs.Claims.{Each}
+use Rattle.drt_model.specs.Each.{Each}
 
 -- There are as many items as graphs.
 pub each_count : {A : Type 0} (R : Digraph → A → Type 0) (graphs : List Digraph) (xs : List A) → Each R graphs xs → length xs ≡ length graphs

@@ -3,7 +3,7 @@ use Rattle.std.proofs.Common.{ℕ, ◌≤◌, ◌<◌, List, [], ◌∷◌, All,
 use Rattle.std.specs.Prelude.{Some, None}
 use Rattle.drt_model.specs.Digraph.{Digraph}
 use Rattle.drt_graph.specs.declared.front.FrontEntry.{FrontEntry}
-use Rattle.drt_claims.specs.Claims.{Each}
+use Rattle.drt_model.specs.Each.{Each}
 use Rattle.drt_graph.specs.FrontEntry.{due}
 use Rattle.drt_claims.specs.Fronts.{IsOrdered, works_due, HaveRoom}
 use Rattle.drt_rates.specs.Demands.{AreFronts, IsLeastExcess}

@@ -5,7 +5,7 @@ use Rattle.std.proofs.lemmas.Bool.Decides.{nat_tests}
 use Rattle.drt_model.specs.Digraph.{Digraph}
 use Rattle.drt_sweep.specs.Dues.{sum_due}
 use Rattle.drt_graph.specs.declared.front.FrontEntry.{FrontEntry}
-use Rattle.drt_claims.specs.Claims.{Each}
+use Rattle.drt_model.specs.Each.{Each}
 use Rattle.drt_graph.specs.FrontEntry.{due}
 use Rattle.drt_claims.specs.Fronts.{HaveRoom, work_due, works_due}
 

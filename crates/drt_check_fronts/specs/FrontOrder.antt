@@ -2,7 +2,7 @@
 use Rattle.std.specs.Prelude.{◌≡◌, ℕ, List, length}
 use Rattle.drt_model.specs.Digraph.{Digraph}
 use Rattle.drt_graph.specs.declared.front.FrontEntry.{FrontEntry}
-use Rattle.drt_claims.specs.Claims.{Each}
+use Rattle.drt_model.specs.Each.{Each}
 use Rattle.drt_claims.specs.Fronts.{IsOrdered}
 
 -- There is a front for each graph, in order within the bound.

@@ -2,7 +2,7 @@
 ghost use Rattle.std.specs.Prelude.{◌≡◌, ℕ, ◌↔◌, ◌<◌, All, IsTrue, length};
 ghost use Rattle.drt_model.specs.Digraph.{out_degree, vertex_count};
 ghost use Rattle.drt_model.specs.Legal.{AllNeighbours};
-ghost use Rattle.drt_claims.specs.Claims.{Each};
+ghost use Rattle.drt_model.specs.Each.{Each};
 ghost use Rattle.drt_claims.specs.Fronts.{IsClosedFront, IsExtended, IsOrdered};
 ghost use Rattle.drt_graph.specs.FrontEntry.{IsNextEntry};
 ghost use Rattle.drt_claims.specs.Ranges.{IsInRangeEntry};

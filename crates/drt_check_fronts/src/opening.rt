@@ -3,7 +3,7 @@ ghost use Rattle.std.specs.Prelude.{◌≡◌, ◌↔◌, ◌<◌, ◌≤◌, An
 ghost use Rattle.drt_model.specs.Digraph.{vertex_count};
 ghost use Rattle.drt_model.specs.Legal.{AllNeighbours};
 ghost use Rattle.drt_model.specs.Walk.{deadline, wcet};
-ghost use Rattle.drt_claims.specs.Claims.{Each};
+ghost use Rattle.drt_model.specs.Each.{Each};
 ghost use Rattle.drt_claims.specs.Fronts.{HasOpenings};
 ghost use Rattle.drt_graph.specs.FrontEntry.{IsNextEntry, Covers};
 ghost use Rattle.drt_check_fronts.specs.FrontOrder.{AreFrontsInOrder};

@@ -5,7 +5,7 @@ use Rattle.std.specs.List.{AllByRecursion}
 use Rattle.std.proofs.lemmas.List.{get_or-map, length-map, take_all}
 use Rattle.std.proofs.lemmas.List.Elements.{All-from_recursion, recursion_from_All}
 use Rattle.drt_model.specs.Digraph.{Digraph}
-use Rattle.drt_claims.specs.Claims.{Each}
+use Rattle.drt_model.specs.Each.{Each}
 use Rattle.drt_claims.specs.Proofs.{tree_sum_at}
 use Rattle.drt_claims.specs.Trees.{IsTree}
 use Rattle.drt_claims.specs.declared.evidence.TreeClaim.{TreeClaim}

@@ -4,10 +4,9 @@ use Rattle.std.specs.Prelude.{Option, Some, None, slice_get}
 use Rattle.std.proofs.lemmas.Bool.{le-ltb}
 use Rattle.std.proofs.lemmas.List.{get_or_append_left, length_push}
 use Rattle.drt_model.specs.Digraph.{Digraph}
-use Rattle.drt_model.specs.RequestFunction.{requested_from}
-use Rattle.drt_model.specs.Walk.{gap}
+use Rattle.drt_model.specs.Walk.{gap, requested_from, request_of}
 use Rattle.drt_claims.specs.Proofs.{tree_sum_at}
-use Rattle.drt_claims.specs.Trees.{IsTree, asked, joined, node_values}
+use Rattle.drt_claims.specs.Trees.{IsTree, joined, node_values}
 use Rattle.drt_claims.specs.declared.evidence.Pair.{Pair}
 use Rattle.drt_claims.specs.declared.evidence.TreeClaim.{TreeClaim}
 use Rattle.drt_check_values.specs.Values.{query_value}
@@ -58,7 +57,7 @@ requested_none g offset u (v ∷ vs) =
     let rest = requested_none g (offset + gap g u v) v vs in
     rw (le-ltb offset 0 (omega arith)) (omega (arith, rest))
 
-asked_none : (g : Digraph) (walk : List ℕ) → asked g 0 walk ≡ 0
+asked_none : (g : Digraph) (walk : List ℕ) → request_of g walk 0 ≡ 0
 asked_none g [] = refl
 asked_none g (u ∷ vs) = requested_none g 0 u vs
 
@@ -73,9 +72,9 @@ joined_keeps values (p ∷ pairs) k l =
 value_none : (g : Digraph) (tree : TreeClaim) → 1 ≤ length tree.walks → get_or (node_values g tree 0) 0 0 ≡ 0
 value_none g tree some = go tree.walks some
   where
-    go : (walks : List (List ℕ)) → 1 ≤ length walks → get_or (joined (map (asked g 0) walks) tree.pairs) 0 0 ≡ 0
+    go : (walks : List (List ℕ)) → 1 ≤ length walks → get_or (joined (map (λ walk. request_of g walk 0) walks) tree.pairs) 0 0 ≡ 0
     go [] l = absurd (omega arith)
-    go (x ∷ walks) l = joined_keeps (asked g 0 x ∷ map (asked g 0) walks) tree.pairs 0 (omega arith) ∙ asked_none g x
+    go (x ∷ walks) l = joined_keeps (request_of g x 0 ∷ map (λ walk. request_of g walk 0) walks) tree.pairs 0 (omega arith) ∙ asked_none g x
 
 value_query : (g : Digraph) (tree : TreeClaim) (t : ℕ) (o : Option ℕ) → 1 ≤ length tree.walks → t ≤ 4294967295 → query_value g tree (query_in t o) ≡ value_in g tree t o
 value_query g tree t None some short = value_none g tree some

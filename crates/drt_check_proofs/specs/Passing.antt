@@ -1,7 +1,7 @@
 -- Where the items that pass stand: their times, and their nodes at a place.
 use Rattle.std.specs.Prelude.{ℕ, min, nat_lt, if◌then◌else◌, Option, None, Some, List, [], ◌∷◌, ◌++◌, map, slice_get}
 use Rattle.std.specs.List.{flat_map}
-use Rattle.drt_model.specs.Limits.{most_number}
+use Rattle.drt_model.specs.Numbers.{most_number}
 use Rattle.drt_model.specs.declared.tasks.Task.{Task}
 use Rattle.drt_claims.specs.Trees.{higher_count, root}
 use Rattle.drt_claims.specs.declared.evidence.Item.{Item}

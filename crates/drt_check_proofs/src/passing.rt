@@ -1,12 +1,13 @@
 //! Whether the times at which items of proofs pass pass.
 ghost use Rattle.std.specs.Prelude.{◌≡◌, ◌↔◌, All, IfOk, IsTrue};
 ghost use Rattle.std.specs.List.{AllByRecursion};
-ghost use Rattle.drt_claims.specs.Claims.{Each, graphs_of};
+ghost use Rattle.drt_claims.specs.Claims.{graphs_of};
 ghost use Rattle.drt_claims.specs.Proofs.{HasPassingTimes, HasShape};
 ghost use Rattle.drt_claims.specs.Ranges.{IsInRangeTree};
 ghost use Rattle.drt_claims.specs.Trees.{HasShortWalks, IsTree, IsTreePerHigherTask, greatest_deadline, tree_graphs};
 ghost use Rattle.drt_check_trees.specs.Order.{IsPriorityOrder};
 ghost use Rattle.drt_check_proofs.specs.Points.{AreRooms, IsPoint, IsTimely, marks, points};
+ghost use Rattle.drt_model.specs.Each.{Each};
 
 use crate::queries::place_queries;
 use crate::rooms::add_rooms;

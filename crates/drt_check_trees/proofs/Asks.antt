@@ -3,12 +3,11 @@ use Rattle.std.proofs.Common.{◌≡◌, ℕ, ◌+◌, ◌*◌, ◌<◌, ◌≤�
 use Rattle.std.specs.Prelude.{◌↔◌}
 use Rattle.std.proofs.lemmas.Bool.{cases_lt, le-ltb, lt-ltb}
 use Rattle.std.proofs.lemmas.List.{drop_more, drop_all}
-use Rattle.drt_model.specs.Limits.{most_time}
+use Rattle.drt_model.specs.Numbers.{most_time}
 use Rattle.drt_model.specs.Digraph.{Digraph}
-use Rattle.drt_model.specs.RequestFunction.{requested_from}
-use Rattle.drt_model.specs.Walk.{gap, wcet, work}
+use Rattle.drt_model.specs.Walk.{gap, wcet, work, requested_from, span_of}
 use Rattle.drt_graph.proofs.Paths.{span_cons, span_none, work_cons, work_none}
-use Rattle.drt_check_trees.specs.Asking.{AsksNoLess, IsCursorPlaced, asked_at, asked_by_rest, span_of}
+use Rattle.drt_check_trees.specs.Asking.{AsksNoLess, IsCursorPlaced, asked_at, asked_by_rest}
 use Rattle.drt_check_trees.specs.Gaps.{gap_to, leap}
 use Rattle.drt_check_trees.specs.declared.asking.Cursor.{Cursor}
 

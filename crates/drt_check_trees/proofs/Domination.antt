@@ -4,8 +4,7 @@ use Rattle.std.proofs.Common.{◌≡◌, ℕ, ◌+◌, ◌<◌, ◌≤◌, ◌�
 use Rattle.std.specs.Prelude.{nat_lt, if◌then◌else◌}
 use Rattle.std.proofs.lemmas.Bool.{cases_lt, le-ltb, lt-ltb}
 use Rattle.drt_model.specs.Digraph.{Digraph, edge_of, out_degree}
-use Rattle.drt_model.specs.RequestFunction.{requested_from}
-use Rattle.drt_model.specs.Walk.{gap, last_of, span, wcet}
+use Rattle.drt_model.specs.Walk.{gap, last_of, span, wcet, requested_from}
 use Rattle.drt_graph.proofs.Paths.{last_both, span_both, span_cons, span_none}
 use Rattle.drt_claims.specs.Trees.{IsAbove, IsClosedWalk, IsExtendedWalk, IsShortWalk}
 use Rattle.drt_claims.specs.declared.evidence.TreeClaim.{TreeClaim}

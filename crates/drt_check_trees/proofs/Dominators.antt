@@ -8,13 +8,13 @@ use Rattle.std.proofs.lemmas.Bool.{cases_Bool, cases_lt, eq-eqb, eqb-true, eqb-f
 use Rattle.std.proofs.lemmas.List.{get_or_default}
 use Rattle.std.proofs.lemmas.List.Sorted.{All-permutation, Contains-permutation}
 use Rattle.std.proofs.lemmas.List.Elements.{All-cons, All-head, All-nil, All-tail}
-use Rattle.drt_model.specs.Limits.{most_time}
+use Rattle.drt_model.specs.Numbers.{most_time}
 use Rattle.drt_model.specs.Digraph.{Digraph, IsSoundGraph, vertex_count}
-use Rattle.drt_model.specs.Walk.{IsPath, gap, last_of, span, work}
+use Rattle.drt_model.specs.Walk.{IsPath, gap, last_of, span, work, span_of}
 use Rattle.drt_graph.proofs.Edges.{target_of}
 use Rattle.drt_graph.proofs.Paths.{path_within, span_cons, work_cons, work_none}
 use Rattle.drt_claims.specs.Trees.{IsShortWalk}
-use Rattle.drt_check_trees.specs.Asking.{AsksNoLess, AreWalkVertices, asked_by_rest, span_of}
+use Rattle.drt_check_trees.specs.Asking.{AsksNoLess, AreWalkVertices, asked_by_rest}
 use Rattle.drt_check_trees.specs.Entries.{AreInOrder, AreWalkEntries, IsEntryOf, IsListed, IsNoLater, IsWalkOver, is_up_to, last_in}
 use Rattle.drt_check_trees.specs.Gaps.{gap_to}
 use Rattle.drt_check_trees.specs.declared.entries.Entry.{Entry}

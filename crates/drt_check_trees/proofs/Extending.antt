@@ -2,12 +2,11 @@
 use Rattle.std.proofs.Common.{◌≡◌, ℕ, ◌+◌, ◌<◌, ◌≤◌, inl, inr, List, [], ◌∷◌, ◌++◌, sym, arith}
 use Rattle.std.specs.Prelude.{◌↔◌, Any}
 use Rattle.drt_model.specs.Digraph.{Digraph, IsSoundGraph, edge_of, out_degree, vertex_count}
-use Rattle.drt_model.specs.Walk.{IsEdge, gap, last_of, wcet, work}
+use Rattle.drt_model.specs.Walk.{IsEdge, gap, last_of, wcet, work, span_of}
 use Rattle.drt_graph.proofs.Edges.{gap_of, sep_of_edge}
 use Rattle.drt_graph.proofs.Paths.{path_both, span_both, span_cons, span_none, work_both, work_cons, work_none}
 use Rattle.drt_claims.specs.Trees.{IsClosedWalk, IsShortWalk}
 use Rattle.drt_claims.specs.declared.evidence.TreeClaim.{TreeClaim}
-use Rattle.drt_check_trees.specs.Asking.{span_of}
 use Rattle.drt_check_trees.specs.Entries.{IsExtendedBy, IsWalkOver, last_in}
 use Rattle.drt_check_trees.proofs.Dominators.{short_last}
 

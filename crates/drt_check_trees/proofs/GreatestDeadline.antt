@@ -5,10 +5,11 @@ use Rattle.std.proofs.lemmas.List.Elements.{All-head, All-tail}
 use Rattle.drt_model.specs.declared.tasks.Task.{Task}
 use Rattle.drt_model.specs.declared.tasks.Vertex.{Vertex}
 use Rattle.drt_model.specs.Digraph.{no_vertex, vertex_count}
-use Rattle.drt_model.specs.Limits.{IsTask, IsTaskSet, IsVertex, most_time}
+use Rattle.drt_model.specs.Limits.{IsTask, IsTaskSet, IsVertex}
 use Rattle.drt_model.specs.Walk.{deadline}
 use Rattle.drt_busy.specs.Choice.{graph_at, no_task, task_at}
 use Rattle.drt_claims.specs.Trees.{greatest_deadline, latest_deadline}
+use Rattle.drt_model.specs.Numbers.{most_time}
 
 pub latest_more : (vertices : List Vertex) (i : ℕ) (d : Vertex) → i < length vertices → latest_deadline (drop i vertices) ≡ max (get_or vertices i d).deadline (latest_deadline (drop (i + 1) vertices))
 unfolding latest_deadline

@@ -1,20 +1,14 @@
 -- What walks ask for, vertex by vertex.
 use Rattle.std.specs.Prelude.{ℕ, ◌+◌, ◌*◌, ◌<◌, ◌≤◌, List, [], ◌∷◌, All, length, drop}
-use Rattle.drt_model.specs.Limits.{most_time}
+use Rattle.drt_model.specs.Numbers.{most_time}
 use Rattle.drt_model.specs.Digraph.{Digraph, vertex_count}
-use Rattle.drt_model.specs.RequestFunction.{requested_from}
-use Rattle.drt_model.specs.Walk.{span}
+use Rattle.drt_model.specs.Walk.{requested_from}
 use Rattle.drt_check_trees.specs.declared.asking.Cursor.{Cursor}
 
 -- The list has vertices of the graph, and at most 1,000,000.
 pub record AreWalkVertices (g : Digraph) (walk : List ℕ) : Type 0 where
   pub each : All (λ v. v < vertex_count g) walk
   pub few : length walk ≤ most_time
-
--- The span of a walk.
-abbrev pub span_of : Digraph → List ℕ → ℕ
-span_of g [] = 0
-span_of g (u ∷ vs) = span g u vs
 
 -- What some vertices ask for before t where the first one is released at the offset.
 abbrev pub asked_by_rest : Digraph → ℕ → List ℕ → ℕ → ℕ

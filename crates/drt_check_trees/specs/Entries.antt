@@ -1,10 +1,9 @@
 -- The walks of a tree, in the order in which they are looked at.
 use Rattle.std.specs.Prelude.{◌≡◌, ℕ, ◌<◌, ◌≤◌, ◌==◌, Bool, nat_le, nat_lt, if◌then◌else◌, List, [], ◌∷◌, All, Any, length, slice_index_or}
 use Rattle.drt_model.specs.Digraph.{Digraph}
-use Rattle.drt_model.specs.Walk.{last_of, work}
+use Rattle.drt_model.specs.Walk.{last_of, work, span_of}
 use Rattle.drt_claims.specs.Trees.{HasShortWalks, IsAbove, IsExtendedWalk}
 use Rattle.drt_claims.specs.declared.evidence.TreeClaim.{TreeClaim}
-use Rattle.drt_check_trees.specs.Asking.{span_of}
 use Rattle.drt_check_trees.specs.declared.entries.Catalogue.{Catalogue}
 use Rattle.drt_check_trees.specs.declared.entries.Entry.{Entry}
 use Rattle.drt_check_trees.specs.declared.gaps.Bounded.{Bounded}

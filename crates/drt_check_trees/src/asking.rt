@@ -1,7 +1,7 @@
 //! What two walks ask for, compared.
 ghost use Rattle.std.specs.Prelude.{◌≡◌, ℕ, ◌↔◌, ◌<◌, ◌≤◌, IsTrue, length};
-ghost use Rattle.drt_model.specs.Walk.{work};
-ghost use Rattle.drt_check_trees.specs.Asking.{AsksNoLess, IsCursorPlaced, AreWalkVertices, asked_at, span_of};
+ghost use Rattle.drt_model.specs.Walk.{work, span_of};
+ghost use Rattle.drt_check_trees.specs.Asking.{AsksNoLess, IsCursorPlaced, AreWalkVertices, asked_at};
 ghost use Rattle.drt_check_trees.specs.Gaps.{AreGaps};
 
 use crate::gaps::next_offset;

@@ -1,14 +1,14 @@
 //! Whether the walks of trees cover those that extend them.
 ghost use Rattle.std.specs.Prelude.{◌≡◌, ℕ, ◌++◌, ◌∷◌, [], ◌↔◌, ◌<◌, ◌≤◌, All, IfOk, IsTrue};
-ghost use Rattle.drt_model.specs.Limits.{most_time};
+ghost use Rattle.drt_model.specs.Numbers.{most_time};
 ghost use Rattle.drt_model.specs.Digraph.{out_degree};
-ghost use Rattle.drt_model.specs.Walk.{work};
-ghost use Rattle.drt_claims.specs.Claims.{Each, graphs_of};
+ghost use Rattle.drt_model.specs.Walk.{work, span_of};
+ghost use Rattle.drt_claims.specs.Claims.{graphs_of};
 ghost use Rattle.drt_claims.specs.Trees.{CoversWalks, HasOpeningWalks, HasShortWalks, IsClosedWalk, IsShortWalk, IsTreePerHigherTask, greatest_deadline, tree_graphs};
-ghost use Rattle.drt_check_trees.specs.Asking.{span_of};
 ghost use Rattle.drt_check_trees.specs.Entries.{IsCatalogue, IsExtendedBy, last_in};
 ghost use Rattle.drt_check_trees.specs.Gaps.{IsBoundedGraph};
 ghost use Rattle.drt_check_trees.specs.Order.{IsPriorityOrder};
+ghost use Rattle.drt_model.specs.Each.{Each};
 
 use crate::asking::{Extent, measure};
 use crate::deadlines::greatest_deadline;

@@ -1,6 +1,6 @@
 //! The greatest deadline of a set.
 ghost use Rattle.std.specs.Prelude.{◌≡◌, ◌≤◌, max};
-ghost use Rattle.drt_model.specs.Limits.{most_time};
+ghost use Rattle.drt_model.specs.Numbers.{most_time};
 ghost use Rattle.drt_claims.specs.Trees.{greatest_deadline, latest_deadline};
 
 use drt_model::{TaskSet, Vertex};

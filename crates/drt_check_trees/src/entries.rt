@@ -1,8 +1,8 @@
 //! Walks of a tree in order, as many as dominate all of its walks, and the search for one that dominates a given walk.
 ghost use Rattle.std.specs.Prelude.{◌≡◌, ℕ, ◌↔◌, ◌<◌, ◌≤◌, [], Any, IfOk, IsTrue, length, slice_index_or};
-ghost use Rattle.drt_model.specs.Walk.{work};
+ghost use Rattle.drt_model.specs.Walk.{work, span_of};
 ghost use Rattle.drt_claims.specs.Trees.{HasShortWalks, IsShortWalk};
-ghost use Rattle.drt_check_trees.specs.Asking.{AsksNoLess, AreWalkVertices, span_of};
+ghost use Rattle.drt_check_trees.specs.Asking.{AsksNoLess, AreWalkVertices};
 ghost use Rattle.drt_check_trees.specs.Entries.{AreInOrder, AreWalkEntries, IsCatalogue, IsEntryOf, IsListed, IsWalkOver, is_up_to, last_in};
 ghost use Rattle.drt_check_trees.specs.Gaps.{AreGaps, IsBoundedGraph};
 ghost use Rattle.drt_check_trees.specs.declared.entries.Entry.{Entry};

@@ -1,6 +1,6 @@
 //! The separations of a graph, laid out so that each is found by one look.
 ghost use Rattle.std.specs.Prelude.{◌≡◌, ◌+◌, ◌<◌, ◌≤◌, IfOk, length};
-ghost use Rattle.drt_model.specs.Limits.{most_time};
+ghost use Rattle.drt_model.specs.Numbers.{most_time};
 ghost use Rattle.drt_model.specs.Walk.{gap};
 ghost use Rattle.drt_check_trees.specs.Asking.{AreWalkVertices};
 ghost use Rattle.drt_check_trees.specs.Gaps.{AreGaps, leap};

@@ -1,9 +1,10 @@
 //! Whether walks are short.
 ghost use Rattle.std.specs.Prelude.{◌≡◌, ◌↔◌, ◌≤◌, IsTrue};
-ghost use Rattle.drt_model.specs.Limits.{most_time};
-ghost use Rattle.drt_claims.specs.Claims.{Each, graphs_of};
+ghost use Rattle.drt_model.specs.Numbers.{most_time};
+ghost use Rattle.drt_claims.specs.Claims.{graphs_of};
 ghost use Rattle.drt_claims.specs.Trees.{HasShortWalks, IsShortWalk, IsTreePerHigherTask, greatest_deadline, tree_graphs};
 ghost use Rattle.drt_check_trees.specs.Order.{IsPriorityOrder};
+ghost use Rattle.drt_model.specs.Each.{Each};
 
 use crate::deadlines::greatest_deadline;
 use crate::order::tree_graph;

@@ -13,12 +13,13 @@ use Rattle.std.proofs.lemmas.List.Sums.{sum_by-cons, sum_by-append}
 use Rattle.std.proofs.lemmas.Option.{slice_get-get_or}
 use Rattle.drt_model.specs.Digraph.{Digraph}
 use Rattle.drt_claims.specs.declared.evidence.TreeClaim.{TreeClaim}
-use Rattle.drt_claims.specs.Trees.{IsTree, asked, node_values, root}
+use Rattle.drt_claims.specs.Trees.{IsTree, node_values, root}
 use Rattle.drt_check_values.specs.Greatest.{greatest}
 use Rattle.drt_check_values.specs.Leaves.{grown_items, leaf_lists, leaves_below, leaf_order, node_count, IsFirstLeaf}
 use Rattle.drt_check_values.proofs.Growing.{no_pair, HasParts, IsGrown, grown_is, joined_grown, each_node}
 use Rattle.drt_check_values.proofs.Counting.{tick, last_sum, has_pair, sum_one, sum_same, sum_below, sum_next, sum_none}
 use Rattle.drt_check_values.proofs.Halving.{greatest_none, greatest_cons, greatest-append}
+use Rattle.drt_model.specs.Walk.{request_of}
 
 -- The parts of a pair.
 abbrev pub left_of : TreeClaim → ℕ → ℕ
@@ -223,7 +224,7 @@ walk_first tree is w f l first =
 
 -- The walk of a number asks at t for this.
 abbrev pub asked_of : Digraph → TreeClaim → ℕ → ℕ → ℕ
-asked_of g tree t w = asked g t (get_or tree.walks w [])
+asked_of g tree t w = request_of g (get_or tree.walks w []) t
 
 -- A node's value is the greatest of those of the leaves below it.
 pub node_value : (g : Digraph) (tree : TreeClaim) → IsTree tree → (t n : ℕ) → n < node_count tree
@@ -231,10 +232,10 @@ pub node_value : (g : Digraph) (tree : TreeClaim) → IsTree tree → (t n : ℕ
 node_value g tree is t = each_node (length tree.walks) tree.pairs (λ n. get_or (node_values g tree t) n 0 ≡ greatest (map (asked_of g tree t) (leaves_below tree n))) (parts tree is) one both
   where
     items : List ℕ
-    items = map (asked g t) tree.walks
+    items = map (λ walk. request_of g walk t) tree.walks
 
     count : length items ≡ length tree.walks
-    count = length-map tree.walks (asked g t)
+    count = length-map tree.walks (λ walk. request_of g walk t)
 
     same : node_values g tree t ≡ grown_items 0 (λ x y. max x y) items tree.pairs
     same = joined_grown items tree.pairs
@@ -245,7 +246,7 @@ node_value g tree is t = each_node (length tree.walks) tree.pairs (λ n. get_or 
     one : (k : ℕ) → k < length tree.walks → get_or (node_values g tree t) k 0 ≡ greatest (map (asked_of g tree t) (leaves_below tree k))
     one k l =
         values.items_kept k (omega (arith, count))
-        ∙ (get_or-map (asked g t) tree.walks k [] 0 l
+        ∙ (get_or-map (λ walk. request_of g walk t) tree.walks k [] 0 l
         ∙ (sym (alone (asked_of g tree t k)) ∙ ap (λ xs. greatest (map (asked_of g tree t) xs)) (sym (leaf_at tree is k l))))
       where
         alone : (x : ℕ) → greatest (x ∷ []) ≡ x

@@ -5,14 +5,13 @@ use Rattle.std.proofs.lemmas.Bool.{cases_lt, cases_eq, eqb-true, eqb-false, lt-l
 use Rattle.std.proofs.lemmas.List.{append_assoc}
 use Rattle.std.proofs.lemmas.List.Elements.{All-nil, All-cons, All-append}
 use Rattle.std.proofs.lemmas.List.Sums.{sum_by-cons, sum_by-append}
-use Rattle.drt_model.specs.Limits.{most_time}
+use Rattle.drt_model.specs.Numbers.{most_time}
 use Rattle.drt_model.specs.Digraph.{Digraph, IsSoundGraph, vertex_count}
-use Rattle.drt_model.specs.Walk.{gap, wcet, IsPath, span}
-use Rattle.drt_model.specs.RequestFunction.{requested_from}
+use Rattle.drt_model.specs.Walk.{gap, wcet, IsPath, span, requested_from, request_of}
 use Rattle.drt_graph.proofs.Edges.{target_of}
 use Rattle.drt_graph.proofs.Paths.{span_cons, span_none}
 use Rattle.drt_claims.specs.declared.evidence.TreeClaim.{TreeClaim}
-use Rattle.drt_claims.specs.Trees.{HasShortWalks, IsTree, IsShortWalk, asked, root}
+use Rattle.drt_claims.specs.Trees.{HasShortWalks, IsTree, IsShortWalk, root}
 use Rattle.drt_check_values.specs.declared.rises.Rise.{Rise}
 use Rattle.drt_check_values.specs.Leaves.{leaf_order, IsFirstLeaf}
 use Rattle.drt_check_values.specs.Rises.{AreRises, added, asked_at_place, rise_at, rises_along, rises_from, risen_at_place}
@@ -87,7 +86,7 @@ from_risen g place x u (v ∷ vs) t p =
     split true m n = refl
     split false m n = omega arith
 
-along_risen : (g : Digraph) (place : ℕ) (walk : List ℕ) (t p : ℕ) → risen_at_place (rises_along g place walk) t p ≡ at_place (eqb place p) (asked g t walk)
+along_risen : (g : Digraph) (place : ℕ) (walk : List ℕ) (t p : ℕ) → risen_at_place (rises_along g place walk) t p ≡ at_place (eqb place p) (request_of g walk t)
 along_risen g place [] t p = go (eqb place p)
   where
     go : (b : Bool) → 0 ≡ at_place b 0
@@ -168,8 +167,8 @@ rises_next g tree is bound few short i first rises l are at = record {
         let since : at_place (nat_lt (get_or (leaf_order tree) p 0) (i + 1)) (asked_at_place g tree t p) ≡ asked_at_place g tree t p = ap (λ b. at_place b (asked_at_place g tree t p)) (lt-ltb (get_or
         (leaf_order tree) p 0) (i + 1) (omega (arith, w))) in
         let new = along_risen g first walk t p in
-        let same : at_place (eqb first p) (asked g t walk) ≡ asked g t walk = on (eqb first p) (λ f. eqb-false first p f e) (asked g t walk) in
-        let mine : asked_at_place g tree t p ≡ asked g t walk = ap (λ k. asked g t (get_or tree.walks k [])) w in
+        let same : at_place (eqb first p) (request_of g walk t) ≡ request_of g walk t = on (eqb first p) (λ f. eqb-false first p f e) (request_of g walk t) in
+        let mine : asked_at_place g tree t p ≡ request_of g walk t = ap (λ k. request_of g (get_or tree.walks k []) t) w in
         omega (arith, old, before, since, new, same, mine)
       where
         on : (b : Bool) → (b ≡ false → ⊥) → (n : ℕ) → at_place b n ≡ n
@@ -179,7 +178,7 @@ rises_next g tree is bound few short i first rises l are at = record {
         let old = are.values t p m in
         let other : get_or (leaf_order tree) p 0 ≢ i = λ e. differ (order_same tree is first p inside (omega (arith, count)) (here ∙ sym e)) in
         let new = along_risen g first walk t p in
-        let none : at_place (eqb first p) (asked g t walk) ≡ 0 = off (eqb first p) (λ f. differ (eqb-true first p f)) (asked g t walk) in
+        let none : at_place (eqb first p) (request_of g walk t) ≡ 0 = off (eqb first p) (λ f. differ (eqb-true first p f)) (request_of g walk t) in
         let kept : nat_lt (get_or (leaf_order tree) p 0) (i + 1) ≡ nat_lt (get_or (leaf_order tree) p 0) i = later (cases_lt (get_or (leaf_order tree) p 0) i) other in
         let e = ap (λ b. at_place b (asked_at_place g tree t p)) kept in
         omega (arith, old, new, none, e)

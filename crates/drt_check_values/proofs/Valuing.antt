@@ -6,14 +6,13 @@ use Rattle.std.proofs.lemmas.List.{ext_get_or, get_or-map, get_or_past, length-m
 use Rattle.std.proofs.lemmas.List.FromFn.{length-map-range_with_len, get_or-map-range_with_len}
 use Rattle.std.proofs.lemmas.List.Elements.{All-head, All-tail}
 use Rattle.std.proofs.lemmas.List.Sorted.{All-permutation, sum_by-IsPermutation}
-use Rattle.drt_model.specs.Limits.{most_time}
+use Rattle.drt_model.specs.Numbers.{most_time}
 use Rattle.drt_model.specs.Digraph.{Digraph, IsSoundGraph, vertex_count}
-use Rattle.drt_model.specs.Walk.{gap, wcet, IsPath, span}
-use Rattle.drt_model.specs.RequestFunction.{requested_from}
+use Rattle.drt_model.specs.Walk.{gap, wcet, IsPath, span, requested_from, request_of}
 use Rattle.drt_graph.proofs.Edges.{target_of}
 use Rattle.drt_graph.proofs.Paths.{span_cons}
 use Rattle.drt_claims.specs.declared.evidence.TreeClaim.{TreeClaim}
-use Rattle.drt_claims.specs.Trees.{HasShortWalks, IsShortWalk, IsTree, asked, node_values}
+use Rattle.drt_claims.specs.Trees.{HasShortWalks, IsShortWalk, IsTree, node_values}
 use Rattle.drt_check_values.specs.declared.query.Query.{Query}
 use Rattle.drt_check_values.specs.declared.rises.Rise.{Rise}
 use Rattle.drt_check_values.specs.Greatest.{greatest}
@@ -52,7 +51,7 @@ span_most g sound u (v ∷ vs) path =
     omega (arith, rest, to.1, s)
 
 -- So a short walk asks for at most 10^12.
-asked_most : (g : Digraph) → IsSoundGraph g → (bound t : ℕ) (walk : List ℕ) → bound ≤ most_time → IsShortWalk bound g walk → asked g t walk ≤ 1000000000000
+asked_most : (g : Digraph) → IsSoundGraph g → (bound t : ℕ) (walk : List ℕ) → bound ≤ most_time → IsShortWalk bound g walk → request_of g walk t ≤ 1000000000000
 asked_most g sound bound t [] few is = omega arith
 asked_most g sound bound t (u ∷ vs) few is =
     let a = requested_most g sound 0 u vs t is.0 is.1 in
@@ -64,7 +63,7 @@ walk_most g sound tree bound few short t w = go (cases_lt w (length tree.walks))
   where
     go : (w < length tree.walks) ⊎ (length tree.walks ≤ w) → asked_of g tree t w ≤ 1000000000000
     go (inl l) = asked_most g sound bound t (get_or tree.walks w []) few (short w [] l)
-    go (inr l) = (let e = ap (asked g t) (get_or_past tree.walks w [] l) in omega (arith, e))
+    go (inr l) = (let e = ap (λ walk. request_of g walk t) (get_or_past tree.walks w [] l) in omega (arith, e))
 
 -- The releases in order are ready to be taken in.
 pub rises_ready : (g : Digraph) → IsSoundGraph g → (tree : TreeClaim) (bound : ℕ) → bound ≤ most_time → HasShortWalks bound g tree → (rises sorted : List Rise) → AreRises g tree rises

@@ -1,10 +1,9 @@
 -- The releases of walks at places, and what they add up to.
 use Rattle.std.specs.Prelude.{◌≡◌, ℕ, ◌+◌, ◌<◌, ◌==◌, ◌&&◌, nat_lt, if◌then◌else◌, List, [], ◌∷◌, length, All, sum_by, slice_index_or}
-use Rattle.drt_model.specs.Limits.{most_time}
+use Rattle.drt_model.specs.Numbers.{most_time}
 use Rattle.drt_model.specs.Digraph.{Digraph}
-use Rattle.drt_model.specs.Walk.{gap, wcet}
+use Rattle.drt_model.specs.Walk.{gap, wcet, request_of}
 use Rattle.drt_claims.specs.declared.evidence.TreeClaim.{TreeClaim}
-use Rattle.drt_claims.specs.Trees.{asked}
 use Rattle.drt_check_values.specs.declared.rises.Rise.{Rise}
 use Rattle.drt_check_values.specs.Leaves.{leaf_order}
 
@@ -32,7 +31,7 @@ risen_at_place rises t place = sum_by (λ r. added t place r) rises
 
 -- What the walk at a place asks for before t.
 abbrev pub asked_at_place : Digraph → TreeClaim → ℕ → ℕ → ℕ
-asked_at_place g tree t place = asked g t (slice_index_or tree.walks (slice_index_or (leaf_order tree) place 0) [])
+asked_at_place g tree t place = request_of g (slice_index_or tree.walks (slice_index_or (leaf_order tree) place 0) []) t
 
 -- The releases are at the places of the walks and before 1,000,000, and add up to what the walks ask for.
 pub record AreRises (g : Digraph) (tree : TreeClaim) (rises : List Rise) : Type 0 where

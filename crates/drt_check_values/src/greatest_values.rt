@@ -1,6 +1,6 @@
 //! Values of places, with the greatest ones of runs of places at hand.
 ghost use Rattle.std.specs.Prelude.{◌≡◌, ℕ, ◌+◌, ◌*◌, ◌%◌, ◌^◌, ◌<◌, ◌≤◌, IfOk, length, replicate, slice_index_or, slice_range, slice_set};
-ghost use Rattle.drt_model.specs.Limits.{most_number};
+ghost use Rattle.drt_model.specs.Numbers.{most_number};
 ghost use Rattle.drt_check_values.specs.Greatest.{AreGreatestJoined, IsJoinedBut, greatest};
 
 use drt_model::Memory;

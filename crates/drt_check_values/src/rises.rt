@@ -1,7 +1,7 @@
 //! The releases of a tree's walks, at the places of the walks.
 ghost use Rattle.std.specs.Prelude.{◌≡◌, ◌+◌, ◌*◌, ◌<◌, ◌≤◌, ◌++◌, All, IfOk, length, sum_by};
 ghost use Rattle.std.specs.List.Sorted.{IsNonDecreasingBy, IsPermutation};
-ghost use Rattle.drt_model.specs.Limits.{most_time};
+ghost use Rattle.drt_model.specs.Numbers.{most_time};
 ghost use Rattle.drt_model.specs.Digraph.{vertex_count};
 ghost use Rattle.drt_claims.specs.Ranges.{IsCounted, IsInRangeTree};
 ghost use Rattle.drt_claims.specs.Trees.{HasShortWalks, IsShortWalk, IsTree};

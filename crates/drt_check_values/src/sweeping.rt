@@ -1,6 +1,6 @@
 //! The sweep over the times of queries, in order.
 ghost use Rattle.std.specs.Prelude.{◌≡◌, ◌+◌, ◌<◌, ◌≤◌, ◌↔◌, All, IfOk, IsTrue, length, map, slice_index_or, slice_range};
-ghost use Rattle.drt_model.specs.Limits.{most_number};
+ghost use Rattle.drt_model.specs.Numbers.{most_number};
 ghost use Rattle.drt_check_values.specs.Greatest.{greatest};
 ghost use Rattle.drt_check_values.specs.Sweeps.{AreReady, HasRunOfPlaces, IsInOrder, IsTaken, answer, heights, no_rise, time_of};
 ghost use Rattle.drt_check_values.specs.Values.{AreLeft, AreWithin};

@@ -1,6 +1,6 @@
 //! The values of nodes at times, taken from rooms.
 ghost use Rattle.std.specs.Prelude.{◌≡◌, ◌+◌, ◌<◌, ◌≤◌, ◌↔◌, All, IfOk, IsTrue, length};
-ghost use Rattle.drt_model.specs.Limits.{most_time};
+ghost use Rattle.drt_model.specs.Numbers.{most_time};
 ghost use Rattle.drt_model.specs.Digraph.{IsSoundGraph};
 ghost use Rattle.drt_claims.specs.Ranges.{IsInRangeTree};
 ghost use Rattle.drt_claims.specs.Trees.{HasShortWalks, IsTree};

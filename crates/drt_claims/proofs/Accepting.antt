@@ -10,7 +10,7 @@ use Rattle.drt_model.specs.declared.jobs.Policy.{Policy}
 use Rattle.drt_model.specs.declared.jobs.Policy.TheVariants.{Edf, Fixed}
 use Rattle.drt_model.specs.declared.jobs.Release.{Release}
 use Rattle.drt_model.specs.declared.tasks.Task.{Task}
-use Rattle.drt_claims.specs.Claims.{graphs_of, Each, IsClaimPerTask, AreLowest, HavePotentials, HaveFittingPotentials, HaveClosedCycles}
+use Rattle.drt_claims.specs.Claims.{graphs_of, IsClaimPerTask, AreLowest, HavePotentials, HaveFittingPotentials, HaveClosedCycles}
 use Rattle.drt_claims.specs.Claims.{HaveTightCycles, IsFine, HaveUtilisationBelowOne, HaveUtilisationOne, IsHorizon}
 use Rattle.drt_claims.specs.Fronts.{IsOrdered, HasOpenings, IsClosedFront, HaveRoom}
 use Rattle.drt_claims.specs.Proofs.{IsProofPerVertex, HasShape, HasPassingTimes}
@@ -33,6 +33,7 @@ use Rattle.drt_claims.specs.declared.rule.Rule.TheVariants.{RisingTails, Boundin
 use Rattle.drt_states.specs.Tails.{BoundsWalks, EachTail, IsTail}
 use Rattle.drt_states.specs.declared.claims.SearchClaim.{SearchClaim}
 use Rattle.drt_states.specs.declared.claims.TailClaim.{TailClaim}
+use Rattle.drt_model.specs.Each.{Each}
 
 -- A set under a policy with this evidence.
 abbrev pub statement : Policy → Contents → Evidence → Statement

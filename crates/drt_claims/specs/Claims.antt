@@ -1,12 +1,14 @@
 -- Claimed ratios, read as fractions and potentials.
-use Rattle.std.specs.Prelude.{◌≡◌, ℕ, ◌≤◌, ◌<◌, ◌^◌, ℤ, List, [], ◌∷◌, length, map, All}
+use Rattle.std.specs.Prelude.{◌≡◌, ℕ, ◌≤◌, ◌<◌, ℤ, List, length, map, All}
 use Rattle.std.specs.Int.{IsGcd}
 use Rattle.drt_model.specs.declared.tasks.Task.{Task}
 use Rattle.drt_model.specs.Digraph.{Digraph, digraph_of}
-use Rattle.drt_model.specs.Utilisation.{Fraction, IsScale, rate, most_scale}
+use Rattle.drt_model.specs.Utilisation.{Fraction, IsScale, rate}
 use Rattle.drt_graph.specs.Horizon.{horizon}
 use Rattle.drt_graph.specs.RatioRules.{ArePotentialsCounted, FitPotentials, IsClosedCycle, IsTight}
 use Rattle.drt_claims.specs.declared.evidence.RatioClaim.{RatioClaim}
+use Rattle.drt_model.specs.Each.{Each}
+use Rattle.drt_model.specs.Numbers.{most_scale}
 
 -- The graphs of the tasks, in order.
 abbrev pub graphs_of : List Task → List Digraph
@@ -23,13 +25,6 @@ fractions claims = map fraction_of claims
 -- The claimed potentials.
 abbrev pub potentials : List RatioClaim → List (List ℤ)
 potentials claims = map (λ c. c.potentials) claims
-
--- The lists have as many items, and R holds of each item of the first and the one at its place in the second.
-abbrev pub Each : {A B : Type 0} → (A → B → Type 0) → List A → List B → Type 0
-Each R [] [] = Unit {0}
-Each R [] (y ∷ ys) = ⊥
-Each R (x ∷ xs) [] = ⊥
-Each R (x ∷ xs) (y ∷ ys) = R x y × Each R xs ys
 
 -- There are as many claims as tasks.
 abbrev pub IsClaimPerTask : List Task → List RatioClaim → Type 0

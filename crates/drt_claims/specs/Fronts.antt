@@ -6,7 +6,7 @@ use Rattle.drt_model.specs.Walk.{wcet, deadline}
 use Rattle.drt_model.specs.Legal.{AllNeighbours}
 use Rattle.drt_sweep.specs.Dues.{greatest_due, sum_due}
 use Rattle.drt_graph.specs.declared.front.FrontEntry.{FrontEntry}
-use Rattle.drt_claims.specs.Claims.{Each}
+use Rattle.drt_model.specs.Each.{Each}
 
 -- The entry names a vertex, and its last job is due within the bound.
 abbrev pub IsEntryWithin : Digraph → ℕ → FrontEntry → Type 0

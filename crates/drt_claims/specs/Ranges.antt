@@ -1,8 +1,6 @@
 -- The ranges of the numbers in a dossier.
 use Rattle.std.specs.Prelude.{ℕ, ◌≤◌, ℤ, pos, negsuc, ◌≤ℤ◌, List, All, length}
-use Rattle.drt_model.specs.Limits.{most_number}
-use Rattle.drt_graph.specs.Fits.{most_height}
-use Rattle.drt_graph.specs.RatioRules.{most_term}
+use Rattle.drt_model.specs.Numbers.{most_number, most_term, most_height, most_ticks}
 use Rattle.drt_model.specs.declared.jobs.Release.{Release}
 use Rattle.drt_model.specs.declared.jobs.Miss.{Miss}
 use Rattle.drt_claims.specs.declared.evidence.Evidence.{Evidence}
@@ -25,10 +23,6 @@ use Rattle.drt_states.specs.declared.claims.TailClaim.{TailClaim}
 -- A number of a vertex, a task, a job or a place, or a count, is at most 4,294,967,295.
 abbrev pub IsNumber : ℕ → Type 0
 IsNumber n = n ≤ most_number
-
--- The greatest time of a dossier, in ticks: 10^18.
-abbrev pub most_ticks : ℕ
-most_ticks = 1000000000000000000
 
 -- An offset, a time, a need or a deadline is at most 10^18 ticks.
 abbrev pub IsTick : ℕ → Type 0

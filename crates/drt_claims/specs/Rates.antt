@@ -1,8 +1,9 @@
 -- How the utilisation of a set stands to one, as statements about its tasks alone.
 use Rattle.std.specs.Prelude.{◌≡◌, ℕ, ◌≤◌, ◌^◌, List}
 use Rattle.drt_model.specs.declared.tasks.Task.{Task}
-use Rattle.drt_model.specs.Utilisation.{Fraction, AreRatios, IsScale, rate, most_scale}
+use Rattle.drt_model.specs.Utilisation.{Fraction, AreRatios, IsScale, rate}
 use Rattle.drt_claims.specs.Claims.{graphs_of}
+use Rattle.drt_model.specs.Numbers.{most_scale}
 
 -- The ratios of a set's tasks, and their scale.
 pub record Rates (tasks : List Task) : Type 0 where

@@ -1,12 +1,12 @@
 -- The rules of the checker, each said once. A rule is a sentence over lists and numbers, and speaks of no search.
 use Rattle.std.specs.Prelude.{◌≡◌, ℕ, ◌≤◌, ◌<◌, ◌^◌, All}
-use Rattle.drt_graph.specs.Horizon.{most_horizon}
+use Rattle.drt_model.specs.Numbers.{most_horizon}
 use Rattle.drt_model.specs.Constrained.{AreConstrained}
 use Rattle.drt_model.specs.Digraph.{Digraph}
 use Rattle.drt_model.specs.Legal.{IsLegal}
 use Rattle.drt_model.specs.Misses.{IsLeastMiss}
 use Rattle.drt_model.specs.Schedulable.{jobs_of}
-use Rattle.drt_claims.specs.Claims.{graphs_of, Each, IsClaimPerTask, AreLowest, HavePotentials, HaveFittingPotentials, HaveClosedCycles}
+use Rattle.drt_claims.specs.Claims.{graphs_of, IsClaimPerTask, AreLowest, HavePotentials, HaveFittingPotentials, HaveClosedCycles}
 use Rattle.drt_claims.specs.Claims.{HaveTightCycles, IsFine, HaveUtilisationBelowOne, HaveUtilisationOne, IsHorizon}
 use Rattle.drt_claims.specs.Fronts.{IsOrdered, HasOpenings, IsClosedFront, HaveRoom}
 use Rattle.drt_claims.specs.Kinds.{IsOfPolicy, HasRatios, HasFronts, HasReleases, HasStates, HasTrees, ratios_of, fronts_of, stated_releases, stated_miss, trees_of, proofs_of}
@@ -24,6 +24,7 @@ use Rattle.drt_claims.specs.declared.rule.Rule.TheVariants.{ClosedCycles, TightC
 use Rattle.drt_claims.specs.declared.rule.Rule.TheVariants.{TreePerHigherTask, ShortWalks, CoveredWalks, TreeShapes, ProofPerVertex, ProofShapes, PassingTimes, LegalReleases, LeastMiss}
 use Rattle.drt_claims.specs.declared.rule.Rule.TheVariants.{RisingTails, BoundingTails, SearchPerVertex, SearchStates, PassingStates, DominatedChildren}
 use Rattle.drt_states.specs.Tails.{BoundsWalks, EachTail, IsTail}
+use Rattle.drt_model.specs.Each.{Each}
 
 -- The number by which a rule is told.
 abbrev pub number_of : Rule → ℕ

@@ -4,8 +4,7 @@ use Rattle.std.specs.Prelude.{◌≡◌, ℕ, ◌+◌, ◌-◌, ◌≤◌, ◌<�
 use Rattle.drt_model.specs.declared.tasks.Task.{Task}
 use Rattle.drt_model.specs.declared.tasks.Vertex.{Vertex}
 use Rattle.drt_model.specs.Digraph.{Digraph, digraph_of, vertex_count, out_degree, edge_of}
-use Rattle.drt_model.specs.RequestFunction.{request}
-use Rattle.drt_model.specs.Walk.{IsPath, last_of, span}
+use Rattle.drt_model.specs.Walk.{IsPath, last_of, span, request, request_of}
 use Rattle.drt_claims.specs.declared.evidence.Pair.{Pair}
 use Rattle.drt_claims.specs.declared.evidence.TreeClaim.{TreeClaim}
 
@@ -92,11 +91,6 @@ pub record IsTree (tree : TreeClaim) : Type 0 where
   pub right : (i : ℕ) (p : Pair) → slice_get tree.pairs i ≡ Some p → p.right < length tree.walks + i
   pub once : (n : ℕ) → n + 1 < length tree.walks + length tree.pairs → named tree.pairs n ≡ 1
 
--- What a walk asks for before t, its first release at 0.
-abbrev pub asked : Digraph → ℕ → List ℕ → ℕ
-asked g t [] = 0
-asked g t (u ∷ vs) = request g u vs t
-
 -- The values of some nodes at a time, followed by those of the pairs after them: each has the greater one of its two parts.
 unfoldable pub joined : List ℕ → List Pair → List ℕ
 joined values [] = values
@@ -104,7 +98,7 @@ joined values (p ∷ pairs) = joined (values ++ max (slice_index_or values p.lef
 
 -- The values of the tree's nodes at t: a walk has its request function's, and a pair the greater one of its parts'.
 abbrev pub node_values : Digraph → TreeClaim → ℕ → List ℕ
-node_values g tree t = joined (map (asked g t) tree.walks) tree.pairs
+node_values g tree t = joined (map (λ walk. request_of g walk t) tree.walks) tree.pairs
 
 -- The last node of the tree.
 abbrev pub root : TreeClaim → ℕ

@@ -3,7 +3,7 @@ use Rattle.std.proofs.Common.{◌≡◌, ℕ, ◌+◌, ◌<◌, ◌≤◌, Bool,
 use Rattle.std.specs.Prelude.{nat_le, nat_lt, bytes_eq}
 use Rattle.std.specs.List.{AllByRecursion, AllZip, list_all, list_any}
 use Rattle.std.proofs.lemmas.List.{length-map}
-use Rattle.drt_model.specs.Limits.{IsName, IsTime, most_time}
+use Rattle.drt_model.specs.Limits.{IsName, IsTime}
 use Rattle.drt_file.specs.trusted.Words.{is_name, is_number, value, end_word}
 use Rattle.drt_file.specs.trusted.Line.{is_text, is_in_range}
 use Rattle.drt_file.specs.trusted.Reading.{Means}
@@ -22,6 +22,7 @@ use Rattle.drt_classic.specs.ClassicLimits.{IsFrame}
 use Rattle.drt_classic.specs.ClassicWords.{sporadic_word, multiframe_word, gmf_word, noncyclic_word, frame_word}
 use Rattle.drt_classic.specs.ClassicReading.{MeanFrame, SaysSporadic, SaysMultiframe, SaysFrame, SaysClassic}
 use Rattle.drt_classic.specs.ClassicFaults.{first_that_holds, in_last, is_open, is_full, has_classic_task, classic_task_count, sporadic_fault, multiframe_fault, open_fault, frame_fault, classic_end_fault, classic_said_by, is_past}
+use Rattle.drt_model.specs.Numbers.{most_time}
 
 -- A table of tests.
 

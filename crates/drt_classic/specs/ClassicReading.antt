@@ -1,5 +1,5 @@
 -- Which texts read as which classic sets, and the fault of every other.
-use Rattle.std.specs.Prelude.{◌≡◌, ℕ, List, [], ◌∷◌, ◌++◌, map, Some}
+use Rattle.std.specs.Prelude.{◌≡◌, ℕ, List, [], ◌∷◌, ◌++◌, map, Some, codes}
 use Rattle.std.specs.List.{AllZip, flat_map}
 use Rattle.drt_file.specs.trusted.Line.{said}
 use Rattle.drt_file.specs.trusted.Reading.{Means}
@@ -11,8 +11,7 @@ use Rattle.drt_classic.specs.declared.state.Line.TheVariants as saying
 use Rattle.drt_classic.specs.declared.fault.ClassicError.{ClassicError}
 use Rattle.drt_classic.specs.declared.fault.ClassicError.TheVariants as errors
 use Rattle.drt_classic.specs.ClassicLimits.{IsClassicSet}
-use Rattle.drt_classic.specs.ClassicWords.{head_line, sporadic_word, multiframe_word, gmf_word, noncyclic_word, frame_word}
-use Rattle.drt_file.specs.trusted.Words.{end_word}
+use Rattle.drt_classic.specs.ClassicWords.{head_line}
 use Rattle.drt_classic.specs.ClassicFaults.{classic_fault_of}
 
 -- The lines of a task: its own line, and for a `gmf` or `noncyclic`, whose own line says no frame, a line for each frame.
@@ -35,7 +34,7 @@ pub record SaysSporadic (words : List (List ℕ)) (name : List ℕ) (f : Frame) 
   pub wcet : List ℕ
   pub deadline : List ℕ
   pub period : List ℕ
-  pub spelled : words ≡ sporadic_word ∷ name ∷ wcet ∷ deadline ∷ period ∷ []
+  pub spelled : words ≡ codes "sporadic" ∷ name ∷ wcet ∷ deadline ∷ period ∷ []
   pub times : MeanFrame wcet deadline period f
 
 -- A line is `multiframe NAME DEADLINE PERIOD WCET1 .. WCETK`.
@@ -43,7 +42,7 @@ pub record SaysMultiframe (words : List (List ℕ)) (name : List ℕ) (deadline 
   pub first : List ℕ
   pub second : List ℕ
   pub others : List (List ℕ)
-  pub spelled : words ≡ multiframe_word ∷ name ∷ first ∷ second ∷ others
+  pub spelled : words ≡ codes "multiframe" ∷ name ∷ first ∷ second ∷ others
   pub deadline_is : Means first deadline
   pub period_is : Means second period
   pub wcets_are : AllZip Means others wcets
@@ -53,17 +52,17 @@ pub record SaysFrame (words : List (List ℕ)) (f : Frame) : Type 0 where
   pub wcet : List ℕ
   pub deadline : List ℕ
   pub sep : List ℕ
-  pub spelled : words ≡ frame_word ∷ wcet ∷ deadline ∷ sep ∷ []
+  pub spelled : words ≡ codes "frame" ∷ wcet ∷ deadline ∷ sep ∷ []
   pub times : MeanFrame wcet deadline sep f
 
 -- The fields of a line are this line: a task of each kind, a frame, or `end`.
 abbrev pub SaysClassic : List (List ℕ) → Line → Type 0
 SaysClassic words (saying.Task (Sporadic name frame)) = SaysSporadic words name frame
 SaysClassic words (saying.Task (Multiframe name deadline period wcets)) = SaysMultiframe words name deadline period wcets
-SaysClassic words (saying.Task (Cyclic name frames)) = (words ≡ gmf_word ∷ name ∷ []) × (frames ≡ [])
-SaysClassic words (saying.Task (Free name frames)) = (words ≡ noncyclic_word ∷ name ∷ []) × (frames ≡ [])
+SaysClassic words (saying.Task (Cyclic name frames)) = (words ≡ codes "gmf" ∷ name ∷ []) × (frames ≡ [])
+SaysClassic words (saying.Task (Free name frames)) = (words ≡ codes "noncyclic" ∷ name ∷ []) × (frames ≡ [])
 SaysClassic words (saying.Frame f) = SaysFrame words f
-SaysClassic words saying.End = words ≡ end_word ∷ []
+SaysClassic words saying.End = words ≡ codes "end" ∷ []
 
 -- A text reads as a set that keeps the limits where the fields of its lines that aren't skipped are `drt-classic 1` and, line by line,
 -- the lines of the set's tasks and `end`.

@@ -7,7 +7,7 @@ classic_word = codes "drt-classic"
 
 -- The first line: `drt-classic 1`.
 abbrev pub head_line : List (List ℕ)
-head_line = classic_word ∷ codes "1" ∷ []
+head_line = codes "drt-classic" ∷ codes "1" ∷ []
 
 -- The keyword `sporadic`.
 abbrev pub sporadic_word : List ℕ

@@ -8,7 +8,7 @@ use Rattle.drt_graph.specs.declared.front.FrontEntry.{FrontEntry}
 use Rattle.drt_model.specs.declared.jobs.Release.{Release}
 use Rattle.drt_model.specs.declared.jobs.Miss.{Miss}
 use Rattle.drt_model.specs.declared.tasks.Task.{Task}
-use Rattle.drt_claims.specs.Claims.{graphs_of, Each}
+use Rattle.drt_claims.specs.Claims.{graphs_of}
 use Rattle.drt_claims.specs.Fronts.{IsOrdered}
 use Rattle.drt_graph.specs.FrontEntry.{IsNextEntry}
 use Rattle.drt_claims.specs.Rates.{IsAtOne}
@@ -33,6 +33,7 @@ use Rattle.drt_effort.specs.Efforts.{most_budget}
 use Rattle.drt_command_bench.specs.Bench.{AreCounts, EdfSays, FixedSays, HasCount}
 use Rattle.drt_check_fronts.proofs.Orders.{later}
 use Rattle.drt_command_edf.proofs.EdfLemmas.{one_alone, one_near, other_near, undecided_other}
+use Rattle.drt_model.specs.Each.{Each}
 
 -- No drawn set is too fine.
 pub never_fine : AreAllSmall → (number : ℕ) → AreTooFine (generated number).tasks → ⊥

@@ -6,7 +6,7 @@ use Rattle.drt_model.specs.declared.jobs.Policy.TheVariants as under
 use Rattle.drt_graph.specs.declared.front.FrontEntry.{FrontEntry}
 use Rattle.drt_model.specs.Digraph.{Digraph}
 use Rattle.drt_model.specs.Schedulable.{Schedulable}
-use Rattle.drt_claims.specs.Claims.{graphs_of, Each}
+use Rattle.drt_claims.specs.Claims.{graphs_of}
 use Rattle.drt_claims.specs.Rates.{IsAtOne}
 use Rattle.drt_edf.specs.Plans.{HasHorizon, IsTooFar}
 use Rattle.drt_edf.specs.Walks.{IsExactFront}
@@ -26,6 +26,7 @@ use Rattle.drt_outcome.specs.declared.outcome.Trail.TheVariants as trails
 use Rattle.drt_command.specs.declared.input.Input.TheVariants.{Nothing}
 use Rattle.drt_command.specs.declared.report.Report.{Report}
 use Rattle.drt_command.specs.Rules.{Rules}
+use Rattle.drt_model.specs.Each.{Each}
 
 -- The verdict under EDF is `yes` or `no` as the set is schedulable or not, unless it is `one`, exactly where the utilisation is one, `beyond`,
 -- exactly where it is below one and the horizon exceeds 2^40, or `undecided`, exactly where there is a trail, which shows that the budget was spent.

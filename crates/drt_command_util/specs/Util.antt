@@ -4,7 +4,7 @@ use Rattle.std.specs.Int.{IsGcd}
 use Rattle.drt_model.specs.Contents.{Contents}
 use Rattle.drt_model.specs.declared.tasks.Task.{Task}
 use Rattle.drt_model.specs.Digraph.{digraph_of}
-use Rattle.drt_model.specs.Utilisation.{Fraction, AreRatios, IsScale, rate, most_scale}
+use Rattle.drt_model.specs.Utilisation.{Fraction, AreRatios, IsScale, rate}
 use Rattle.drt_file.specs.trusted.Canonical.{written}
 use Rattle.drt_outcome.specs.declared.fault.Fault.{Fault}
 use Rattle.drt_outcome.specs.declared.fault.Fault.TheVariants as faults
@@ -12,6 +12,7 @@ use Rattle.drt_outcome.specs.declared.outcome.Trail.TheVariants as trails
 use Rattle.drt_command.specs.declared.report.Report.{Report}
 use Rattle.drt_command.specs.Rules.{Rules}
 use Rattle.drt_command_files.specs.TaskFiles.{IsAccepted, IsFileFault, file_input}
+use Rattle.drt_model.specs.Numbers.{most_scale}
 
 -- The line of a name and its fraction: `NAME NUM/DEN`.
 abbrev pub fraction_line : List ℕ → Fraction → List (List ℕ)

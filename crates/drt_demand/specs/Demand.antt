@@ -1,8 +1,7 @@
 -- Demand labels as values.
 use Rattle.std.specs.Prelude.{ℕ, ◌+◌, ◌*◌, ◌≤◌, Bool, true, ◌==◌, nat_le, ◌&&◌, replicate}
-use Rattle.drt_model.specs.Limits.{most_time}
+use Rattle.drt_model.specs.Numbers.{most_time, most_horizon}
 use Rattle.drt_label.specs.Algebra.{Algebra}
-use Rattle.drt_graph.specs.Horizon.{most_horizon}
 use Rattle.drt_graph.specs.declared.front.FrontEntry.{FrontEntry}
 
 -- The label of the walk of one vertex.

@@ -1,7 +1,7 @@
 -- What the fronts of all tasks decide.
 use Rattle.std.proofs.Common.{ℕ, ◌≤◌, List, [], ◌∷◌, All, length, ap, arith}
 use Rattle.std.specs.Prelude.{Ok}
-use Rattle.drt_graph.specs.Horizon.{most_horizon}
+use Rattle.drt_model.specs.Numbers.{most_horizon}
 use Rattle.drt_model.specs.declared.tasks.Task.{Task}
 use Rattle.drt_model.specs.Digraph.{Digraph, IsSoundGraph}
 use Rattle.drt_graph.specs.Graphs.{AreGraphs}

@@ -13,10 +13,11 @@ use Rattle.drt_ratio.proofs.Optima.{cycle_sums}
 use Rattle.drt_horizon.specs.Given.{IsRatioGiven, AreGiven, potentials_of}
 use Rattle.drt_horizon.proofs.Overloads.{cycle_few}
 use Rattle.drt_claims.specs.declared.evidence.RatioClaim.{RatioClaim}
-use Rattle.drt_claims.specs.Claims.{fractions, potentials, Each, AreLowest}
+use Rattle.drt_claims.specs.Claims.{fractions, potentials, AreLowest}
 use Rattle.drt_claims.specs.Ranges.{IsNumber, IsInRangePotential, IsInRangeRatio}
 use Rattle.drt_edf.specs.Plans.{ArePotentials}
 use Rattle.drt_edf.specs.RatioClaims.{claim_of, claims_of}
+use Rattle.drt_model.specs.Each.{Each}
 
 -- What holds of the first and of the others holds of all.
 pub all_cons : {X : Type 0} (P : X → Type 0) (x : X) (xs : List X) → P x → All P xs → All P (x ∷ xs)

@@ -6,11 +6,11 @@ use Rattle.std.proofs.lemmas.List.{append-nil}
 use Rattle.std.proofs.lemmas.List.Elements.{All-head, All-tail}
 use Rattle.drt_model.specs.declared.tasks.Task.{Task}
 use Rattle.drt_model.specs.Digraph.{Digraph, IsSoundGraph, IsConstrainedGraph, digraph_of}
-use Rattle.drt_model.specs.Walk.{gap, IsEdge, IsPath, deadline, last_of, span, work, IsCycle, cycle_span}
+use Rattle.drt_model.specs.Walk.{gap, IsEdge, IsPath, deadline, last_of, span, work, IsCycle, cycle_span, IsWalk, due_of}
 use Rattle.drt_graph.proofs.Edges.{edge_of_sep, source_of, target_of}
 use Rattle.drt_ratio.specs.declared.ratio_proof.RatioProof.{RatioProof}
 use Rattle.drt_graph.proofs.Paths.{path_both, last_both, work_both, span_both, span_cons, work_none, span_none, cycle_path}
-use Rattle.drt_busy.specs.Choice.{IsWalk, due_of, AreDueBy, AreWalks, efforts}
+use Rattle.drt_busy.specs.Choice.{AreDueBy, AreWalks, efforts}
 use Rattle.drt_horizon.specs.declared.cycle_turns.CycleTurn.{CycleTurn}
 use Rattle.drt_horizon.specs.Given.{AreGiven}
 use Rattle.drt_horizon.specs.CycleTurns.{with_cycle_turn, cycle_turns_of, turned}

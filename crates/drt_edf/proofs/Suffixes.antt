@@ -3,8 +3,8 @@ use Rattle.std.proofs.Common.{◌≡◌, ℕ, zero, suc, ◌+◌, ◌<◌, ◌�
 use Rattle.std.proofs.lemmas.List.{drop_more, length-drop}
 use Rattle.drt_model.specs.declared.tasks.Task.{Task}
 use Rattle.drt_model.specs.Digraph.{Digraph, digraph_of}
-use Rattle.drt_model.specs.Walk.{work}
-use Rattle.drt_busy.specs.Choice.{no_task, task_at, graph_at, IsWalk, due_of, AreWalks, AreDueBy, efforts}
+use Rattle.drt_model.specs.Walk.{work, IsWalk, due_of}
+use Rattle.drt_busy.specs.Choice.{no_task, task_at, graph_at, AreWalks, AreDueBy, efforts}
 use Rattle.drt_graph.specs.Graphs.{no_graph}
 use Rattle.drt_horizon.specs.Laws.{IsDue, AreDue, efforts_together as list_efforts}
 use Rattle.drt_claims.specs.Claims.{graphs_of}

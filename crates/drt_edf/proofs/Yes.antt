@@ -3,12 +3,11 @@ use Rattle.std.proofs.Common.{◌≡◌, ℕ, suc, ◌+◌, ◌*◌, ◌<◌, �
 use Rattle.std.specs.Prelude.{Ok, ◌^◌}
 use Rattle.std.proofs.lemmas.Bool.{cases_lt}
 use Rattle.std.proofs.lemmas.List.{get_or_default}
-use Rattle.drt_graph.specs.Horizon.{most_horizon}
 use Rattle.drt_model.specs.declared.tasks.Task.{Task}
 use Rattle.drt_model.specs.declared.jobs.Policy.TheVariants.{Edf}
 use Rattle.drt_model.specs.Constrained.{AreConstrained}
 use Rattle.drt_model.specs.Digraph.{Digraph, IsSoundGraph, vertex_count, out_degree, edge_of}
-use Rattle.drt_model.specs.Limits.{IsTaskSet, most_time}
+use Rattle.drt_model.specs.Limits.{IsTaskSet}
 use Rattle.drt_model.specs.Schedulable.{Schedulable}
 use Rattle.drt_model.specs.Walk.{wcet, deadline, gap, IsEdge, IsPath, last_of, work, span}
 use Rattle.drt_busy.specs.Choice.{AreWalks, AreDueBy, efforts}
@@ -24,7 +23,7 @@ use Rattle.drt_rates.specs.Demands.{demands}
 use Rattle.drt_horizon.specs.Given.{AreGiven}
 use Rattle.drt_horizon.specs.Laws.{HorizonHolds}
 use Rattle.drt_horizon.specs.Plans.{IsHorizonPlan}
-use Rattle.drt_claims.specs.Claims.{graphs_of, Each}
+use Rattle.drt_claims.specs.Claims.{graphs_of}
 use Rattle.drt_graph.specs.FrontEntry.{due}
 use Rattle.drt_claims.specs.Fronts.{IsOrdered, HasOpenings, IsExtended, IsClosedFront, works_due, HaveRoom}
 use Rattle.drt_claims.specs.Ranges.{IsInRangeEntry}
@@ -38,6 +37,8 @@ use Rattle.drt_edf.proofs.Covered.{all_within}
 use Rattle.drt_edf.proofs.Planned.{claims_kept, claims_below, planned_below}
 use Rattle.drt_edf.proofs.RatioClaims.{head_of, tail_of}
 use Rattle.drt_edf.proofs.Suffixes.{listed, efforts_listed, due_listed}
+use Rattle.drt_model.specs.Each.{Each}
+use Rattle.drt_model.specs.Numbers.{most_time, most_horizon}
 
 -- The demand has room at each time up to the bound.
 abbrev pub HasRoom : List Digraph → List (List FrontEntry) → ℕ → Type 0

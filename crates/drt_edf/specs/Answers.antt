@@ -1,6 +1,6 @@
 -- What each answer of the EDF analysis says.
 use Rattle.std.specs.Prelude.{◌≡◌, ℕ, ◌<◌, ◌≤◌, ◌^◌, ◌⊎◌, List, length, Option}
-use Rattle.drt_graph.specs.Horizon.{most_horizon}
+use Rattle.drt_model.specs.Numbers.{most_horizon}
 use Rattle.drt_model.specs.declared.tasks.Task.{Task}
 use Rattle.drt_model.specs.declared.jobs.Policy.TheVariants.{Edf}
 use Rattle.drt_model.specs.declared.jobs.Release.{Release}
@@ -13,7 +13,7 @@ use Rattle.drt_busy.specs.Choice.{AreDueBy, AreWalks, efforts}
 use Rattle.drt_busy.specs.WalkReleases.{all_releases}
 use Rattle.drt_horizon.specs.declared.answers.Beyond.{Beyond}
 use Rattle.drt_horizon.specs.declared.answers.Beyond.TheVariants.{TooFine, TooFar}
-use Rattle.drt_claims.specs.Claims.{graphs_of, Each, IsHorizon}
+use Rattle.drt_claims.specs.Claims.{graphs_of, IsHorizon}
 use Rattle.drt_claims.specs.Ranges.{IsEvidenceInRange}
 use Rattle.drt_claims.specs.Rules.{Accepts}
 use Rattle.drt_claims.specs.declared.evidence.Evidence.{Evidence}
@@ -28,6 +28,7 @@ use Rattle.drt_edf.specs.declared.answer.EdfAnswer.{EdfAnswer}
 use Rattle.drt_edf.specs.declared.answer.EdfAnswer.TheVariants as answers
 use Rattle.drt_trails.specs.declared.EdfTrail.{EdfTrail}
 use Rattle.drt_trails.specs.declared.EdfTrail.TheVariants.{Table, Overload}
+use Rattle.drt_model.specs.Each.{Each}
 
 -- The checker accepts the evidence for a set of these tasks under EDF.
 abbrev pub IsAcceptedFor : List Task → Evidence → Type 0

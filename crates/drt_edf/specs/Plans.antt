@@ -2,11 +2,12 @@
 use Rattle.std.specs.Prelude.{◌≡◌, ℕ, ◌≤◌, ◌<◌, ◌^◌, ℤ, List, [], ◌∷◌}
 use Rattle.drt_model.specs.declared.tasks.Task.{Task}
 use Rattle.drt_model.specs.Digraph.{Digraph}
-use Rattle.drt_model.specs.Utilisation.{Fraction, rate, most_scale}
+use Rattle.drt_model.specs.Utilisation.{Fraction, rate}
 use Rattle.drt_graph.specs.Potential.{AreCanonical}
-use Rattle.drt_graph.specs.Horizon.{horizon, most_horizon}
+use Rattle.drt_graph.specs.Horizon.{horizon}
 use Rattle.drt_claims.specs.Claims.{graphs_of}
 use Rattle.drt_claims.specs.Rates.{Rates}
+use Rattle.drt_model.specs.Numbers.{most_scale, most_horizon}
 
 -- The lists are the canonical potentials of the graphs at these ratios, in order.
 abbrev pub ArePotentials : List Digraph → List Fraction → List (List ℤ) → Type 0

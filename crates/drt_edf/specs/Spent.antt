@@ -1,6 +1,6 @@
 -- Where a budget is spent, and how much is enough.
 use Rattle.std.specs.Prelude.{◌≡◌, ℕ, ◌≤◌, ◌<◌, ◌^◌, false, List, length, All, Some, slice_get}
-use Rattle.drt_graph.specs.Horizon.{most_horizon}
+use Rattle.drt_model.specs.Numbers.{most_horizon}
 use Rattle.drt_model.specs.declared.tasks.Task.{Task}
 use Rattle.drt_model.specs.Digraph.{Digraph}
 use Rattle.drt_model.specs.Utilisation.{IsScale}

@@ -1,6 +1,6 @@
 //! Ratios with their evidence, as claims.
 ghost use Rattle.std.specs.Prelude.{◌≡◌, ◌≤◌, IfOk};
-ghost use Rattle.drt_graph.specs.RatioRules.{most_term};
+ghost use Rattle.drt_model.specs.Numbers.{most_term};
 ghost use Rattle.drt_edf.specs.RatioClaims.{claim_of, claims_of};
 ghost use Rattle.drt_ratio.specs.SetRatios.{AreSmall};
 

@@ -1,6 +1,6 @@
 //! In which order the tasks are looked at side by side. It is reckoned from their graphs, and decides no answer.
 ghost use Rattle.std.specs.Prelude.{◌≡◌, ◌≤◌, ◌<◌, IfOk, length};
-ghost use Rattle.drt_graph.specs.Horizon.{most_horizon};
+ghost use Rattle.drt_model.specs.Numbers.{most_horizon};
 ghost use Rattle.drt_model.specs.Digraph.{vertex_count};
 
 use drt_ahead::shared_size;

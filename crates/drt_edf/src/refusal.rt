@@ -4,9 +4,10 @@ ghost use Rattle.drt_busy.specs.Choice.{AreDueBy, AreWalks, efforts};
 ghost use Rattle.drt_horizon.specs.Given.{AreGiven};
 ghost use Rattle.drt_horizon.specs.CycleTurns.{cycle_turns_of, turned};
 ghost use Rattle.drt_claims.specs.Claims.{graphs_of};
-ghost use Rattle.drt_claims.specs.Ranges.{IsEvidenceInRange, most_ticks};
+ghost use Rattle.drt_claims.specs.Ranges.{IsEvidenceInRange};
 ghost use Rattle.drt_releases.specs.Walks.{walk_at};
 ghost use Rattle.drt_edf.specs.Answers.{IsEdfVerdict};
+ghost use Rattle.drt_model.specs.Numbers.{most_ticks};
 
 use crate::turns::turns;
 use drt_accepted::Accepted;

@@ -1,6 +1,6 @@
 //! The searches of the tasks' walks.
 ghost use Rattle.std.specs.Prelude.{◌<◌, ◌≤◌, IfOk, length};
-ghost use Rattle.drt_graph.specs.Horizon.{most_horizon};
+ghost use Rattle.drt_model.specs.Numbers.{most_horizon};
 ghost use Rattle.drt_ahead.specs.Found.{AreThere};
 ghost use Rattle.drt_edf.specs.Searches.{AreSearches, IsAheadOf, IsEndOf};
 

@@ -1,10 +1,9 @@
 -- What the search of a task's walks gives: a front.
 use Rattle.std.specs.Prelude.{◌≡◌, ℕ, ◌≤◌, List, [], ◌∷◌, Any}
 use Rattle.drt_model.specs.Digraph.{Digraph}
-use Rattle.drt_model.specs.Walk.{work}
+use Rattle.drt_model.specs.Walk.{work, IsWalk, due_of}
 use Rattle.drt_graph.specs.declared.front.FrontEntry.{FrontEntry}
 use Rattle.drt_demand.specs.Dbf.{dbf_at}
-use Rattle.drt_busy.specs.Choice.{IsWalk, due_of}
 use Rattle.drt_claims.specs.Fronts.{IsOrdered}
 use Rattle.drt_graph.specs.FrontEntry.{Covers}
 use Rattle.drt_wave.specs.Fronts.{IsWalkEntry, IsExactFront}

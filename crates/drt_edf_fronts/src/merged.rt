@@ -1,6 +1,6 @@
 //! Tasks whose walks are merged.
 ghost use Rattle.std.specs.Prelude.{◌≤◌, IfOk, IfSome};
-ghost use Rattle.drt_graph.specs.Horizon.{most_horizon};
+ghost use Rattle.drt_model.specs.Numbers.{most_horizon};
 ghost use Rattle.drt_effort.specs.Efforts.{most_budget};
 ghost use Rattle.drt_model.specs.Digraph.{IsConstrainedGraph};
 ghost use Rattle.drt_claims.specs.Ranges.{IsCounted};

@@ -1,7 +1,7 @@
 //! The search of a task's walks.
 ghost use Rattle.std.specs.Prelude.{◌≡◌, ◌≤◌, IfOk};
 ghost use Rattle.drt_table.specs.Machine.{search_of};
-ghost use Rattle.drt_graph.specs.Horizon.{most_horizon};
+ghost use Rattle.drt_model.specs.Numbers.{most_horizon};
 ghost use Rattle.drt_model.specs.Digraph.{IsConstrainedGraph};
 ghost use Rattle.drt_edf_fronts.specs.Ends.{IsEnded};
 ghost use Rattle.drt_table.specs.Drive.{StopsAt};

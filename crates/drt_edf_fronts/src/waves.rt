@@ -1,7 +1,7 @@
 //! Tasks whose walks are worked in a wave table.
 ghost use Rattle.std.specs.Prelude.{◌≡◌, ◌+◌, ◌*◌, ◌≤◌, ◌↔◌, IfOk, IsTrue};
 ghost use Rattle.drt_wave.specs.Cells.{most_cells};
-ghost use Rattle.drt_graph.specs.Horizon.{most_horizon};
+ghost use Rattle.drt_model.specs.Numbers.{most_horizon};
 ghost use Rattle.drt_graph.specs.Degrees.{most_out};
 ghost use Rattle.drt_model.specs.Digraph.{IsConstrainedGraph, vertex_count};
 ghost use Rattle.drt_claims.specs.Ranges.{IsCounted};

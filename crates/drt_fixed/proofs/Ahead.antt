@@ -5,7 +5,7 @@ use Rattle.std.specs.List.{AllZip}
 use Rattle.std.proofs.lemmas.List.{get_or-drop}
 use Rattle.drt_model.specs.Digraph.{Digraph}
 use Rattle.drt_ahead.specs.Found.{AreThere}
-use Rattle.drt_busy.specs.Choice.{IsWalk}
+use Rattle.drt_model.specs.Walk.{IsWalk}
 use Rattle.drt_check_states.specs.Places.{graphs_at}
 use Rattle.drt_states.specs.declared.claims.TailClaim.{TailClaim}
 use Rattle.drt_sp_states.specs.Answers.{IsSearchedAnswer}

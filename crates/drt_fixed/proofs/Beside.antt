@@ -3,11 +3,11 @@ use Rattle.std.proofs.Common.{inl, inr, ◌≡◌, ℕ, zero, suc, ◌+◌, ◌<
 use Rattle.std.specs.List.{AllZip}
 use Rattle.std.proofs.lemmas.Bool.{cases_Bool, eq-eqb, le-ltb, lt-ltb, ltb-false, ltb-true, ne_eqb}
 use Rattle.std.proofs.lemmas.List.{get_or_append_left, get_or_push}
-use Rattle.drt_model.specs.Limits.{most_time}
+use Rattle.drt_model.specs.Numbers.{most_time}
 use Rattle.drt_model.specs.declared.tasks.Task.{Task}
 use Rattle.drt_model.specs.Digraph.{Digraph, IsSoundGraph, vertex_count}
 use Rattle.drt_graph.specs.Graphs.{graph_of}
-use Rattle.drt_busy.specs.Choice.{IsWalk, graph_at, task_at}
+use Rattle.drt_busy.specs.Choice.{graph_at, task_at}
 use Rattle.drt_busy.specs.WalkReleases.{all_releases, with_job}
 use Rattle.drt_check_states.specs.Places.{graphs_at}
 use Rattle.drt_busy.specs.Response.{cut}
@@ -16,6 +16,7 @@ use Rattle.drt_busy.proofs.Cuts.{cut_walk}
 use Rattle.drt_releases.proofs.Cuts.{cut_due, one_due}
 use Rattle.drt_sp.proofs.Refused.{all_same}
 use Rattle.drt_fixed.specs.Searching.{IsBeside}
+use Rattle.drt_model.specs.Walk.{IsWalk}
 
 -- The walk at each place is one of the graph there.
 pub walk_there : (graphs : List Digraph) (order : List ℕ) (walks : List (List ℕ)) → AllZip IsWalk (graphs_at graphs order) walks

@@ -1,13 +1,13 @@
 -- What the searches of all vertices are given, and what they find.
 use Rattle.std.specs.Prelude.{◌≡◌, ℕ, ◌+◌, ◌<◌, ◌≤◌, List, Option, length, slice_index_or, take}
 use Rattle.std.specs.List.{All, AllZip}
-use Rattle.drt_model.specs.Limits.{most_time}
+use Rattle.drt_model.specs.Numbers.{most_time}
 use Rattle.drt_model.specs.declared.tasks.Task.{Task}
 use Rattle.drt_model.specs.Digraph.{Digraph, vertex_count}
-use Rattle.drt_model.specs.Walk.{deadline}
+use Rattle.drt_model.specs.Walk.{deadline, IsWalk, due_of}
 use Rattle.drt_graph.specs.Graphs.{graph_of}
 use Rattle.drt_ahead.specs.Found.{AreThere}
-use Rattle.drt_busy.specs.Choice.{IsWalk, due_of, graph_at}
+use Rattle.drt_busy.specs.Choice.{graph_at}
 use Rattle.drt_busy.specs.WalkReleases.{with_job}
 use Rattle.drt_check_states.specs.Crests.{AreCrests}
 use Rattle.drt_check_states.specs.Curves.{HasRisingCurves}

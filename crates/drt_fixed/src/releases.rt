@@ -3,7 +3,7 @@ ghost use Rattle.std.specs.Prelude.{◌≡◌, ℕ, ◌<◌, List, length, IfOk}
 ghost use Rattle.std.specs.List.{AllZip};
 ghost use Rattle.drt_model.specs.Digraph.{Digraph};
 ghost use Rattle.drt_graph.specs.Graphs.{graph_of};
-ghost use Rattle.drt_busy.specs.Choice.{IsWalk};
+ghost use Rattle.drt_model.specs.Walk.{IsWalk};
 ghost use Rattle.drt_check_states.specs.Places.{graphs_at};
 ghost use Rattle.drt_releases.specs.Walks.{walk_at};
 ghost use Rattle.drt_fixed.specs.Answers.{IsOfStates};

@@ -4,10 +4,10 @@ use Rattle.std.proofs.lemmas.Bool.{cases_Bool, eqb-true}
 use Rattle.std.proofs.lemmas.List.{length-map}
 use Rattle.drt_model.specs.declared.tasks.Task.{Task}
 use Rattle.drt_model.specs.Digraph.{Digraph, IsSoundGraph, digraph_of, vertex_count}
-use Rattle.drt_model.specs.Limits.{IsTaskSet, most_time}
+use Rattle.drt_model.specs.Limits.{IsTaskSet}
 use Rattle.drt_graph.specs.Graphs.{graph_of}
 use Rattle.drt_graph.proofs.Soundness.{all_sound}
-use Rattle.drt_busy.specs.Choice.{AreWalks, IsWalk, due_of, graph_at, no_task, task_at}
+use Rattle.drt_busy.specs.Choice.{AreWalks, graph_at, no_task, task_at}
 use Rattle.drt_busy.specs.Response.{cut}
 use Rattle.drt_busy.specs.WalkReleases.{with_job}
 use Rattle.drt_busy.proofs.Cuts.{cut_walk}
@@ -16,6 +16,8 @@ use Rattle.drt_releases.proofs.Walks.{graph_same}
 use Rattle.drt_releases.specs.Walks.{AreDueWalks}
 use Rattle.drt_fixed_task.specs.Higher.{job_walk_in_file_order, walk_in_file_order}
 use Rattle.drt_releases.proofs.Cuts.{cut_due, one_due}
+use Rattle.drt_model.specs.Walk.{IsWalk, due_of}
+use Rattle.drt_model.specs.Numbers.{most_time}
 
 -- A walk of the graph that is due by t.
 abbrev IsDueWalk : Digraph → ℕ → List ℕ → Type 0

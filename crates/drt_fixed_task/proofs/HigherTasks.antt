@@ -6,9 +6,10 @@ use Rattle.std.proofs.lemmas.List.{append-nil, length-append, length-map, map-ap
 use Rattle.std.proofs.lemmas.List.Elements.{All-append, All-nil, filter-append}
 use Rattle.drt_model.specs.declared.tasks.Task.{Task}
 use Rattle.drt_model.specs.Digraph.{Digraph}
-use Rattle.drt_busy.specs.Choice.{graph_at, request_of, requests, task_at}
+use Rattle.drt_busy.specs.Choice.{graph_at, requests, task_at}
 use Rattle.drt_states_laws.specs.Laws.{asked_together}
 use Rattle.drt_fixed_task.specs.Higher.{higher_before}
+use Rattle.drt_model.specs.Walk.{request_of}
 
 -- One number more.
 range_more : (a n : ℕ) → range_with_len a (suc n) ≡ range_with_len a n ++ (a + n) ∷ []

@@ -5,9 +5,9 @@ use Rattle.std.proofs.lemmas.List.Elements.{All-from_recursion, All-map, recursi
 use Rattle.drt_model.specs.declared.tasks.Task.{Task}
 use Rattle.drt_model.specs.Digraph.{Digraph, IsSoundGraph}
 use Rattle.drt_model.specs.Limits.{IsTaskSet}
-use Rattle.drt_model.specs.Walk.{deadline, wcet}
+use Rattle.drt_model.specs.Walk.{deadline, wcet, IsWalk}
 use Rattle.drt_graph.proofs.Soundness.{all_sound}
-use Rattle.drt_busy.specs.Choice.{IsWalk, graph_at, no_task, task_at}
+use Rattle.drt_busy.specs.Choice.{graph_at, no_task, task_at}
 use Rattle.drt_states.specs.declared.claims.StateClaim.{StateClaim}
 use Rattle.drt_states.specs.declared.claims.TailClaim.{TailClaim}
 use Rattle.drt_states.specs.States.{AreStates, HaveDominatedChildren, HavePassingTimes}

@@ -7,7 +7,7 @@ use Rattle.std.proofs.lemmas.List.Elements.{All-contains, All-from_recursion, Co
 use Rattle.drt_model.specs.declared.tasks.Task.{Task}
 use Rattle.drt_model.specs.Digraph.{Digraph}
 use Rattle.drt_graph.specs.Graphs.{graph_of}
-use Rattle.drt_busy.specs.Choice.{AreWalks, IsWalk, graph_at, requests, task_at}
+use Rattle.drt_busy.specs.Choice.{AreWalks, graph_at, requests, task_at}
 use Rattle.drt_claims.specs.Claims.{graphs_of}
 use Rattle.drt_check_states.specs.Places.{graphs_at}
 use Rattle.drt_states_laws.specs.Laws.{asked_together}
@@ -15,6 +15,7 @@ use Rattle.drt_releases.proofs.Walks.{graph_same}
 use Rattle.drt_fixed_task.specs.Higher.{higher_before, walk_in_file_order}
 use Rattle.drt_fixed_task.proofs.HigherTasks.{asked_is, higher_all, higher_no, higher_yes}
 use Rattle.drt_fixed_task.proofs.Lists.{map_same, zip_each, zip_long}
+use Rattle.drt_model.specs.Walk.{IsWalk}
 
 -- A task of higher priority is among them.
 higher_has : (tasks : List Task) (p n i : ℕ) → i < n → ltb (task_at tasks i).priority p ≡ true → Contains (higher_before tasks p n) i

@@ -1,6 +1,6 @@
 //! The tails of the tasks of higher priority.
 ghost use Rattle.std.specs.Prelude.{ℕ, ◌<◌, ◌≤◌, IfOk, IfSome};
-ghost use Rattle.drt_model.specs.Limits.{most_time};
+ghost use Rattle.drt_model.specs.Numbers.{most_time};
 ghost use Rattle.drt_model.specs.Digraph.{vertex_count};
 ghost use Rattle.drt_model.specs.Walk.{deadline};
 ghost use Rattle.drt_check_states.specs.Places.{AreTasks, graphs_at};

@@ -1,7 +1,7 @@
 -- Separations and gaps.
 use Rattle.std.proofs.Common.{◌≡◌, ℕ, ◌≤◌, [], Some, None, refl, sym, ap, arith}
 use Rattle.std.proofs.lemmas.List.{get_or_past}
-use Rattle.drt_model.specs.Limits.{most_time}
+use Rattle.drt_model.specs.Numbers.{most_time}
 use Rattle.drt_model.specs.Digraph.{Digraph, IsSoundGraph, vertex_count, out_edges, no_vertex}
 use Rattle.drt_model.specs.Walk.{wcet, sep_in, sep, or_zero, gap, IsEdge}
 use Rattle.drt_graph.proofs.Edges.{target_of, gap_of}

@@ -3,6 +3,7 @@ use Rattle.std.specs.Prelude.{ℕ, ◌*◌, ◌<◌, ℤ, pos, negsuc, ◌-ℤ�
 use Rattle.drt_model.specs.Digraph.{Digraph, vertex_count, out_degree, edge_of}
 use Rattle.drt_model.specs.Walk.{wcet}
 use Rattle.drt_graph.specs.Potential.{potential_of}
+use Rattle.drt_model.specs.Numbers.{most_height}
 
 -- On the k-th edge out of u the gain of the edge is at most what the potential rises.
 abbrev pub Allows : Digraph → ℕ → ℕ → List ℤ → ℕ → ℕ → Type 0
@@ -11,10 +12,6 @@ Allows g a b hs u k = (pos (b * wcet g (edge_of g u k).to) -ℤ pos (a * (edge_o
 -- It is so on each edge.
 abbrev pub AllowAll : Digraph → ℕ → ℕ → List ℤ → Type 0
 AllowAll g a b hs = (u k : ℕ) → u < vertex_count g → k < out_degree g u → Allows g a b hs u k
-
--- How far from 0 a potential is at most.
-abbrev pub most_height : ℕ
-most_height = 10000000000000000
 
 -- The potential of each vertex is within 10^16 of 0.
 abbrev pub AreNear : Digraph → List ℤ → Type 0

@@ -34,10 +34,6 @@ extra scale (g ∷ graphs) (r ∷ ratios) [] = 0
 extra scale (g ∷ graphs) (r ∷ ratios) (hs ∷ potentials) =
     above_zero (constant_of g r.num r.den hs) * (scale / r.den) + extra scale graphs ratios potentials
 
--- The furthest horizon that an analysis looks to, in ticks: 2^40.
-abbrev pub most_horizon : ℕ
-most_horizon = 1099511627776
-
 -- The horizon H of a set whose rate is below its scale. (A difference of these numbers is 0 where it would be negative.)
 abbrev pub horizon : ℕ → List Digraph → List Fraction → List (List ℤ) → ℕ
 horizon scale graphs ratios potentials = (extra scale graphs ratios potentials - scale) / (scale - rate scale ratios)

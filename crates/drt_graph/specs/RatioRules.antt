@@ -4,10 +4,6 @@ use Rattle.drt_model.specs.Digraph.{Digraph, vertex_count}
 use Rattle.drt_model.specs.Walk.{sep, wcet, work, IsCycle, cycle_span}
 use Rattle.drt_graph.specs.Potential.{potential_of}
 
--- The greatest numerator and the greatest denominator of a ratio.
-abbrev pub most_term : ℕ
-most_term = 1000000000
-
 -- There are as many potentials as vertices.
 abbrev pub ArePotentialsCounted : Digraph → List ℤ → Type 0
 ArePotentialsCounted g hs = length hs ≡ vertex_count g

@@ -1,12 +1,12 @@
 //! The constant of a task: how far the work of its walks may be above its ratio's share.
 ghost use Rattle.std.specs.Prelude.{◌≡◌, ℕ, ◌*◌, ◌<◌, ◌≤◌, ℤ, pos, negsuc, ◌-ℤ◌, ◌≤ℤ◌, length};
 ghost use Rattle.std.specs.Int.{int_max};
-ghost use Rattle.drt_graph.specs.RatioRules.{most_term};
+ghost use Rattle.drt_model.specs.Numbers.{most_term, most_height};
 ghost use Rattle.drt_model.specs.Digraph.{vertex_count};
 ghost use Rattle.drt_model.specs.Walk.{wcet, deadline};
 ghost use Rattle.drt_graph.specs.Potential.{potential_of};
 ghost use Rattle.drt_graph.specs.Horizon.{most_over, constant_of, above_zero};
-ghost use Rattle.drt_graph.specs.Fits.{AreNear, most_height};
+ghost use Rattle.drt_graph.specs.Fits.{AreNear};
 
 use crate::graph::Graph;
 use crate::potentials::potential_at;

@@ -1,9 +1,9 @@
 //! Cycles of a graph, what they sum to, and whether one has a ratio.
 ghost use Rattle.std.specs.Prelude.{◌≡◌, ◌*◌, ◌<◌, ◌≤◌, ◌↔◌, IsTrue, length};
-ghost use Rattle.drt_model.specs.Limits.{most_time};
+ghost use Rattle.drt_model.specs.Numbers.{most_time, most_term};
 ghost use Rattle.drt_model.specs.Digraph.{vertex_count};
 ghost use Rattle.drt_model.specs.Walk.{wcet, sep, gap, IsEdge, IsCycle, work, cycle_span};
-ghost use Rattle.drt_graph.specs.RatioRules.{IsClosedCycle, IsTight, most_term};
+ghost use Rattle.drt_graph.specs.RatioRules.{IsClosedCycle, IsTight};
 
 use crate::graph::Graph;
 

@@ -2,8 +2,9 @@
 ghost use Rattle.std.specs.Prelude.{◌≡◌, ℤ, pos, ◌*◌, ◌<◌, ◌≤◌, ◌≤ℤ◌, ◌-ℤ◌, ◌↔◌, IsTrue};
 ghost use Rattle.drt_model.specs.Digraph.{vertex_count, out_degree};
 ghost use Rattle.drt_graph.specs.Potential.{potential_of};
-ghost use Rattle.drt_graph.specs.RatioRules.{FitPotentials, most_term};
+ghost use Rattle.drt_graph.specs.RatioRules.{FitPotentials};
 ghost use Rattle.drt_graph.specs.Fits.{Allows, AllowAll};
+ghost use Rattle.drt_model.specs.Numbers.{most_term};
 
 use crate::graph::Graph;
 

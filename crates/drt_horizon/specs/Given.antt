@@ -1,5 +1,6 @@
 -- The graphs of a set with what the search for the greatest ratio gives for each.
 use Rattle.std.specs.Prelude.{ℤ, List, [], ◌∷◌, map}
+use Rattle.drt_model.specs.Each.{Each}
 use Rattle.drt_model.specs.Digraph.{Digraph}
 use Rattle.drt_graph.specs.RatioRules.{ProvesRatio}
 use Rattle.drt_ratio.specs.declared.ratio_proof.RatioProof.{RatioProof}
@@ -13,10 +14,7 @@ pub record IsRatioGiven (g : Digraph) (p : RatioProof) : Type 0 where
 
 -- One for each graph, in order.
 abbrev pub AreGiven : List Digraph → List RatioProof → Type 0
-AreGiven [] [] = Unit {0}
-AreGiven [] (p ∷ proofs) = ⊥
-AreGiven (g ∷ graphs) [] = ⊥
-AreGiven (g ∷ graphs) (p ∷ proofs) = IsRatioGiven g p × AreGiven graphs proofs
+AreGiven graphs proofs = Each IsRatioGiven graphs proofs
 
 -- The potentials of each, in order.
 abbrev pub potentials_of : List RatioProof → List (List ℤ)

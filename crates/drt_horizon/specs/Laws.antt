@@ -1,5 +1,6 @@
 -- What the horizon and the turns of a set mean.
 use Rattle.std.specs.Prelude.{◌≡◌, ℕ, ◌+◌, ◌-◌, ◌*◌, ◌/◌, ◌<◌, ◌≤◌, ℤ, pos, ◌+ℤ◌, ◌≤ℤ◌, List, [], ◌∷◌, All, Ok}
+use Rattle.drt_model.specs.Each.{Each}
 use Rattle.drt_model.specs.Digraph.{Digraph, IsSoundGraph, vertex_count}
 use Rattle.drt_model.specs.Walk.{IsPath, last_of, work, span, deadline}
 use Rattle.drt_graph.specs.RatioRules.{FitPotentials}
@@ -33,10 +34,7 @@ IsDue g t (u ∷ vs) = (u < vertex_count g) × IsPath g u vs × (span g u vs + d
 
 -- Such a walk for each graph, in order.
 abbrev pub AreDue : ℕ → List Digraph → List (List ℕ) → Type 0
-AreDue t [] [] = Unit {0}
-AreDue t [] (w ∷ walks) = ⊥
-AreDue t (g ∷ graphs) [] = ⊥
-AreDue t (g ∷ graphs) (w ∷ walks) = IsDue g t w × AreDue t graphs walks
+AreDue t graphs walks = Each (λ g w. IsDue g t w) graphs walks
 
 -- The work of the walks together.
 unfoldable pub efforts_together : List Digraph → List (List ℕ) → ℕ
@@ -76,10 +74,7 @@ IsWalkLabel g x = (u : ℕ) × (vs : List ℕ) × (u < vertex_count g) × IsPath
 
 -- Each label of each list is that of a walk of its graph, and there is one list for each graph, in order.
 abbrev pub AreWalkFronts : List Digraph → List (List FrontEntry) → Type 0
-AreWalkFronts [] [] = Unit {0}
-AreWalkFronts [] (f ∷ fronts) = ⊥
-AreWalkFronts (g ∷ graphs) [] = ⊥
-AreWalkFronts (g ∷ graphs) (f ∷ fronts) = All (IsWalkLabel g) f × AreWalkFronts graphs fronts
+AreWalkFronts graphs fronts = Each (λ g front. All (IsWalkLabel g) front) graphs fronts
 
 -- Where the plan is a horizon, each time at which the demands over such lists are together more than the time is at most the
 -- horizon.

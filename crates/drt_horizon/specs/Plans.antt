@@ -1,8 +1,8 @@
 -- What a plan says of a set.
 use Rattle.std.specs.Prelude.{◌≡◌, ℕ, ◌^◌, ◌<◌, ◌≤◌, List, Result, Ok, Err}
 use Rattle.drt_model.specs.Digraph.{Digraph}
-use Rattle.drt_model.specs.Utilisation.{IsScale, rate, most_scale}
-use Rattle.drt_graph.specs.Horizon.{horizon, most_horizon}
+use Rattle.drt_model.specs.Utilisation.{IsScale, rate}
+use Rattle.drt_graph.specs.Horizon.{horizon}
 use Rattle.drt_ratio.specs.declared.ratio_proof.RatioProof.{RatioProof}
 use Rattle.drt_ratio.specs.SetRatios.{fractions_of}
 use Rattle.drt_horizon.specs.declared.answers.Horizon.{Horizon}
@@ -10,6 +10,7 @@ use Rattle.drt_horizon.specs.declared.answers.Horizon.TheVariants.{Under, One, O
 use Rattle.drt_horizon.specs.declared.answers.Beyond.{Beyond}
 use Rattle.drt_horizon.specs.declared.answers.Beyond.TheVariants.{TooFine, TooFar}
 use Rattle.drt_horizon.specs.Given.{potentials_of}
+use Rattle.drt_model.specs.Numbers.{most_scale, most_horizon}
 
 -- The rate of the set at the scale.
 abbrev pub rate_at : ℕ → List RatioProof → ℕ

@@ -5,11 +5,11 @@ use Rattle.drt_model.specs.Constrained.{AreConstrained}
 use Rattle.drt_model.specs.Digraph.{vertex_count}
 use Rattle.drt_model.specs.Limits.{IsTaskSet}
 use Rattle.drt_model.specs.Schedulable.{Schedulable}
-use Rattle.drt_model.specs.Walk.{span, wcet, work}
+use Rattle.drt_model.specs.Walk.{span, wcet, work, IsWalk, due_of}
 use Rattle.drt_model.specs.declared.jobs.Policy.{Policy}
 use Rattle.drt_model.specs.declared.jobs.Policy.TheVariants.{Edf, Fixed}
 use Rattle.drt_model.specs.declared.tasks.Task.{Task}
-use Rattle.drt_busy.specs.Choice.{AreDueBy, AreWalks, IsWalk, due_of, efforts, graph_at, requests, task_at}
+use Rattle.drt_busy.specs.Choice.{AreDueBy, AreWalks, efforts, graph_at, requests, task_at}
 use Rattle.drt_busy.proofs.Decide.{deadlines_decide, times_decide}
 use Rattle.drt_margin.specs.Margin.{deadline_at, wcet_at}
 use Rattle.drt_margin.proofs.Milder.{AreMilder, dues_same, efforts_less, requests_less, walks_same}

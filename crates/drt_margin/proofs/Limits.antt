@@ -8,13 +8,14 @@ use Rattle.std.proofs.lemmas.List.Elements.{All-set}
 use Rattle.std.proofs.lemmas.Option.{get_or_from_slice_get, slice_get_within, slice_get-get_or, slice_get_past}
 use Rattle.drt_model.specs.Constrained.{AreConstrained, IsConstrainedEdge}
 use Rattle.drt_model.specs.Digraph.{no_vertex, vertex_count}
-use Rattle.drt_model.specs.Limits.{IsEdgeAmong, IsTask, IsTaskSet, IsTime, IsVertex, most_time}
+use Rattle.drt_model.specs.Limits.{IsEdgeAmong, IsTask, IsTaskSet, IsTime, IsVertex}
 use Rattle.drt_model.specs.declared.tasks.Edge.{Edge}
 use Rattle.drt_model.specs.declared.tasks.Task.{Task}
 use Rattle.drt_model.specs.declared.tasks.Vertex.{Vertex}
 use Rattle.drt_busy.specs.Choice.{graph_at, no_task, task_at}
 use Rattle.drt_margin.specs.Margin.{plus, timed, timed_task, timed_tasks, wcet_at}
 use Rattle.drt_margin.proofs.Timed.{timed_length, timed_vertices, timed_wcet, timed_within}
+use Rattle.drt_model.specs.Numbers.{most_time}
 
 -- What an item and the one in its place have alike, the lists have alike at each place.
 field_kept : {X Y : Type 0} (f : X → Y) (xs : List X) (k : ℕ) (y d : X) → k < length xs → f y ≡ f (get_or xs k d) → (i : ℕ) (c : X) → i < length xs → f (get_or (set xs k y) i c) ≡ f (get_or xs i c)

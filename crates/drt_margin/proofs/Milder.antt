@@ -5,12 +5,11 @@ use Rattle.std.specs.List.{range_with_len}
 use Rattle.std.proofs.lemmas.Bool.{cases_eq}
 use Rattle.std.proofs.lemmas.List.{length-set, get_or-set_same, get_or-set_other}
 use Rattle.drt_model.specs.Digraph.{Digraph, digraph_of, edges_from, no_vertex, vertex_count}
-use Rattle.drt_model.specs.RequestFunction.{requested_from}
-use Rattle.drt_model.specs.Walk.{IsPath, deadline, gap, last_of, or_zero, sep_in, span, wcet, work}
+use Rattle.drt_model.specs.Walk.{IsPath, deadline, gap, last_of, or_zero, sep_in, span, wcet, work, requested_from, IsWalk, due_of, request_of}
 use Rattle.drt_model.specs.declared.tasks.Edge.{Edge}
 use Rattle.drt_model.specs.declared.tasks.Task.{Task}
 use Rattle.drt_model.specs.declared.tasks.Vertex.{Vertex}
-use Rattle.drt_busy.specs.Choice.{AreDueBy, AreWalks, IsWalk, due_of, efforts, graph_at, request_of, requests, task_at}
+use Rattle.drt_busy.specs.Choice.{AreDueBy, AreWalks, efforts, graph_at, requests, task_at}
 use Rattle.drt_margin.specs.Margin.{timed, timed_task, timed_tasks}
 use Rattle.drt_margin.proofs.Timed.{timed_elsewhere, timed_length, timed_there}
 

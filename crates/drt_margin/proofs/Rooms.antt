@@ -1,6 +1,6 @@
 -- A room between a number that is within and one that isn't: how it opens, gets smaller, and what it gives at last.
 use Rattle.std.proofs.Common.{◌≡◌, ℕ, ◌+◌, ◌-◌, ◌<◌, ◌≤◌, Some, None, ap, subst, arith}
-use Rattle.drt_model.specs.Limits.{most_time}
+use Rattle.drt_model.specs.Numbers.{most_time}
 use Rattle.drt_model.specs.Contents.{Contents}
 use Rattle.drt_model.specs.declared.jobs.Policy.{Policy}
 use Rattle.drt_claims.specs.declared.evidence.Evidence.{Evidence}

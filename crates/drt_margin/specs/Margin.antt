@@ -3,7 +3,7 @@ use Rattle.std.specs.Prelude.{◌≡◌, ℕ, ◌+◌, ◌-◌, ◌/◌, ◌<◌
 use Rattle.drt_model.specs.Constrained.{AreConstrained}
 use Rattle.drt_model.specs.Contents.{Contents}
 use Rattle.drt_model.specs.Digraph.{no_vertex, vertex_count}
-use Rattle.drt_model.specs.Limits.{IsTaskSet, most_time}
+use Rattle.drt_model.specs.Limits.{IsTaskSet}
 use Rattle.drt_model.specs.Schedulable.{Schedulable}
 use Rattle.drt_model.specs.Utilisation.{rate}
 use Rattle.drt_model.specs.Walk.{deadline, wcet}
@@ -13,6 +13,7 @@ use Rattle.drt_model.specs.declared.tasks.Task.{Task}
 use Rattle.drt_model.specs.declared.tasks.Vertex.{Vertex}
 use Rattle.drt_busy.specs.Choice.{graph_at, task_at}
 use Rattle.drt_claims.specs.Rates.{Rates}
+use Rattle.drt_model.specs.Numbers.{most_time}
 
 -- The vertex with this execution time in place of its own.
 abbrev pub timed : Vertex → ℕ → Vertex

@@ -2,7 +2,7 @@
 use Rattle.std.specs.Prelude.{◌≡◌, ℕ, ◌+◌, ◌-◌, ◌<◌, ◌≤◌, All, IfSome, List, None, Some, slice_index, slice_index_or}
 use Rattle.drt_model.specs.Contents.{Contents}
 use Rattle.drt_model.specs.Constrained.{AreConstrained}
-use Rattle.drt_model.specs.Limits.{IsTaskSet, most_time}
+use Rattle.drt_model.specs.Limits.{IsTaskSet}
 use Rattle.drt_model.specs.declared.jobs.Policy.{Policy}
 use Rattle.drt_model.specs.declared.jobs.Policy.TheVariants.{Edf}
 use Rattle.drt_edf.specs.Answers.{IsBeyond}
@@ -22,6 +22,7 @@ use Rattle.drt_margin.specs.declared.halving.Half.{Half}
 use Rattle.drt_margin.specs.declared.halving.Half.TheVariants as halves
 use Rattle.drt_margin.specs.declared.halving.Last.{Last}
 use Rattle.drt_margin.specs.declared.halving.Last.TheVariants as lasts
+use Rattle.drt_model.specs.Numbers.{most_time}
 
 -- The question can be asked of the set: it keeps its limits, its deadlines are constrained, and the vertex is there.
 pub record IsAsked (set : Contents) (q : Question) : Type 0 where

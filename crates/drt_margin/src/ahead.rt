@@ -1,6 +1,6 @@
 //! Numbers that workers ask about ahead, side by side.
 ghost use Rattle.std.specs.Prelude.{◌≡◌, ℕ, ◌+◌, ◌<◌, ◌≤◌, All, IfOk, IfSome, None, Some, length, slice_index, slice_index_or};
-ghost use Rattle.drt_model.specs.Limits.{most_time};
+ghost use Rattle.drt_model.specs.Numbers.{most_time};
 ghost use denote.Param.Send.{IsSync};
 ghost use Rattle.drt_model.specs.Contents.{Contents};
 ghost use Rattle.drt_margin.specs.Margin.{plus_set, wcet_at};

@@ -1,6 +1,6 @@
 //! One set, asked of the analysis of its policy.
 ghost use Rattle.std.specs.Prelude.{◌≡◌, ℕ, ◌+◌, ◌≤◌, ◌↔◌, IfOk, IsTrue};
-ghost use Rattle.drt_model.specs.Limits.{most_time};
+ghost use Rattle.drt_model.specs.Numbers.{most_time};
 ghost use Rattle.drt_model.specs.Constrained.{AreConstrained};
 ghost use Rattle.drt_model.specs.Contents.{Contents};
 ghost use Rattle.drt_model.specs.declared.jobs.Policy.{Policy};

@@ -1,6 +1,6 @@
 //! The numbers that halving may ask about next.
 ghost use Rattle.std.specs.Prelude.{◌<◌, ◌≤◌, All, IfOk, length};
-ghost use Rattle.drt_model.specs.Limits.{most_time};
+ghost use Rattle.drt_model.specs.Numbers.{most_time};
 
 use drt_model::Memory;
 use std::alloc::Global;

@@ -2,8 +2,9 @@
 ghost use Rattle.std.specs.Prelude.{◌≡◌, ◌+◌, ◌-◌, ◌<◌, ◌≤◌, length, slice_index_or, slice_set};
 ghost use Rattle.drt_model.specs.Contents.{Contents};
 ghost use Rattle.drt_model.specs.Digraph.{no_vertex};
-ghost use Rattle.drt_model.specs.Limits.{IsTaskSet, IsTime, most_time};
+ghost use Rattle.drt_model.specs.Limits.{IsTaskSet, IsTime};
 ghost use Rattle.drt_margin.specs.Margin.{IsVertexOf, deadline_at, plus_set, timed, timed_set, timed_task, timed_tasks, wcet_at};
+ghost use Rattle.drt_model.specs.Numbers.{most_time};
 
 use drt_model::{Row, Task, TaskSet, Vertex};
 use std::alloc::Global;

@@ -1,6 +1,6 @@
 //! The front of a task's walks.
 ghost use Rattle.std.specs.Prelude.{◌≡◌, ◌*◌, ◌<◌, ◌≤◌, true, IfOk, IfSome, length};
-ghost use Rattle.drt_graph.specs.Horizon.{most_horizon};
+ghost use Rattle.drt_model.specs.Numbers.{most_horizon};
 ghost use Rattle.drt_effort.specs.Efforts.{most_budget};
 ghost use Rattle.drt_model.specs.Digraph.{IsConstrainedGraph, vertex_count};
 ghost use Rattle.drt_merge.specs.Arcs.{AreArcs};

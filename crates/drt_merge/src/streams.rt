@@ -1,6 +1,6 @@
 //! The candidates of the arcs.
 ghost use Rattle.std.specs.Prelude.{◌≡◌, ◌<◌, ◌≤◌, ◌↔◌, IfOk, IfSome, IsTrue, length};
-ghost use Rattle.drt_graph.specs.Horizon.{most_horizon};
+ghost use Rattle.drt_model.specs.Numbers.{most_horizon};
 ghost use Rattle.drt_merge.specs.Arcs.{AreArcs};
 ghost use Rattle.drt_merge.specs.Arcs.{IsArc};
 ghost use Rattle.drt_merge.specs.Marks.{row, AreRows};

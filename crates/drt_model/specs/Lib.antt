@@ -8,4 +8,5 @@ pub mod Constrained
 pub mod Digraph
 pub mod Walk
 pub mod Utilisation
-pub mod RequestFunction
+pub mod Each
+pub mod Numbers

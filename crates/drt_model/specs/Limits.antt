@@ -4,6 +4,7 @@ use Rattle.std.specs.Char.{IsAsciiAlphanumeric}
 use Rattle.drt_model.specs.declared.tasks.Vertex.{Vertex}
 use Rattle.drt_model.specs.declared.tasks.Edge.{Edge}
 use Rattle.drt_model.specs.declared.tasks.Task.{Task}
+use Rattle.drt_model.specs.Numbers.{most_time, most_priority}
 
 -- There are two versions of task sets.
 abbrev pub IsVersion : ℕ → Type 0
@@ -27,21 +28,9 @@ pub record IsName (name : List ℕ) : Type 0 where
   pub at_most_32 : length name ≤ 32
   pub bytes : All IsNameByte name
 
--- The greatest number of 32 bits.
-abbrev pub most_number : ℕ
-most_number = 4294967295
-
--- The greatest time of a file, in ticks.
-abbrev pub most_time : ℕ
-most_time = 1000000
-
 -- An execution time, a deadline or a separation is 1 to 1,000,000 ticks.
 abbrev pub IsTime : ℕ → Type 0
 IsTime t = (1 ≤ t) × (t ≤ most_time)
-
--- The greatest priority of a file.
-abbrev pub most_priority : ℕ
-most_priority = 1000000
 
 -- A priority is 1 to 1,000,000.
 abbrev pub IsPriority : ℕ → Type 0

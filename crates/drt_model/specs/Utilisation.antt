@@ -1,5 +1,6 @@
 -- The ratio of a task and the utilisation of a set (Stigge, Ekberg, Guan and Yi, RTAS 2011), as statements about all cycles.
-use Rattle.std.specs.Prelude.{◌≡◌, ◌≢◌, ℕ, ◌+◌, ◌*◌, ◌/◌, ◌^◌, ◌<◌, ◌≤◌, List, [], ◌∷◌, length, slice_index}
+use Rattle.std.specs.Prelude.{◌≡◌, ◌≢◌, ℕ, ◌+◌, ◌*◌, ◌/◌, ◌<◌, ◌≤◌, List, [], ◌∷◌, length, slice_index}
+use Rattle.drt_model.specs.Each.{Each}
 use Rattle.std.specs.Int.{◌∣◌, IsGcd}
 use Rattle.drt_model.specs.Digraph.{Digraph}
 use Rattle.drt_model.specs.Walk.{work, IsCycle, cycle_span}
@@ -31,19 +32,12 @@ pub record IsRatio (g : Digraph) (r : Fraction) : Type 0 where
 
 -- The fractions are the ratios of the graphs, in order.
 abbrev pub AreRatios : List Digraph → List Fraction → Type 0
-AreRatios [] [] = Unit {0}
-AreRatios [] (r ∷ ratios) = ⊥
-AreRatios (g ∷ graphs) [] = ⊥
-AreRatios (g ∷ graphs) (r ∷ ratios) = IsRatio g r × AreRatios graphs ratios
+AreRatios graphs ratios = Each IsRatio graphs ratios
 
 -- The number is a multiple of each denominator.
 abbrev pub EachDivides : List Fraction → ℕ → Type 0
 EachDivides [] m = Unit {0}
 EachDivides (r ∷ ratios) m = (r.den ∣ m) × EachDivides ratios m
-
--- The greatest scale that is reckoned with: 2^60.
-abbrev pub most_scale : ℕ
-most_scale = 2 ^ 60
 
 -- The scale L of a set is the least common multiple of the denominators of its ratios.
 pub record IsScale (ratios : List Fraction) (scale : ℕ) : Type 0 where

@@ -1,8 +1,8 @@
 -- Edges, walks and cycles of a graph (Stigge, Ekberg, Guan and Yi, RTAS 2011). A walk is its first vertex and the list of the
 -- vertices after it.
-use Rattle.std.specs.Prelude.{◌≡◌, ℕ, ◌+◌, ◌==◌, List, [], ◌∷◌, Option, Some, None, if◌then◌else◌}
+use Rattle.std.specs.Prelude.{◌≡◌, ℕ, ◌+◌, ◌==◌, List, [], ◌∷◌, Option, Some, None, if◌then◌else◌, nat_lt, ◌<◌}
 use Rattle.drt_model.specs.declared.tasks.Edge.{Edge}
-use Rattle.drt_model.specs.Digraph.{Digraph, vertex_of, out_edges}
+use Rattle.drt_model.specs.Digraph.{Digraph, vertex_of, out_edges, vertex_count}
 
 -- The separation of the first of some edges that leads to v.
 unfoldable pub sep_in : List Edge → ℕ → Option ℕ
@@ -64,3 +64,33 @@ IsCycle g (v ∷ vs) = IsPath g (last_of v vs) (v ∷ vs)
 abbrev pub cycle_span : Digraph → List ℕ → ℕ
 cycle_span g [] = 0
 cycle_span g (v ∷ vs) = span g (last_of v vs) (v ∷ vs)
+
+-- What a walk's releases ask for before t, the first release at the given offset at vertex u and each next one as early as its
+-- separation allows: a release counts where its offset is below t.
+unfoldable pub requested_from : Digraph → ℕ → ℕ → List ℕ → ℕ → ℕ
+requested_from g offset u [] t = if nat_lt offset t then wcet g u else 0
+requested_from g offset u (v ∷ vs) t = (if nat_lt offset t then wcet g u else 0) + requested_from g (offset + gap g u v) v vs t
+
+-- The request function of the walk that starts at u: the execution times of its releases with an offset below t.
+abbrev pub request : Digraph → ℕ → List ℕ → ℕ → ℕ
+request g u vs t = requested_from g 0 u vs t
+
+-- The list is a walk of the graph: its first vertex is one of the graph's, and an edge leads from each to the next.
+abbrev pub IsWalk : Digraph → List ℕ → Type 0
+IsWalk g [] = Unit {0}
+IsWalk g (u ∷ vs) = (u < vertex_count g) × IsPath g u vs
+
+-- The last deadline of a walk whose releases are as early as they may be: its span and the deadline of its last vertex.
+abbrev pub due_of : Digraph → List ℕ → ℕ
+due_of g [] = 0
+due_of g (u ∷ vs) = span g u vs + deadline g (last_of u vs)
+
+-- What the walk's releases ask for before t, the first one released at 0.
+abbrev pub request_of : Digraph → List ℕ → ℕ → ℕ
+request_of g [] t = 0
+request_of g (u ∷ vs) t = request g u vs t
+
+-- The span of a walk.
+abbrev pub span_of : Digraph → List ℕ → ℕ
+span_of g [] = 0
+span_of g (u ∷ vs) = span g u vs

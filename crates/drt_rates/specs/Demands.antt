@@ -1,5 +1,6 @@
 -- The demands of a set over the fronts of its tasks.
 use Rattle.std.specs.Prelude.{ℕ, ◌<◌, ◌≤◌, List, [], ◌∷◌, All, Option, Some, None}
+use Rattle.drt_model.specs.Each.{Each}
 use Rattle.drt_model.specs.Digraph.{Digraph, vertex_count}
 use Rattle.drt_graph.specs.FrontEntry.{due}
 use Rattle.drt_graph.specs.declared.front.FrontEntry.{FrontEntry}
@@ -11,10 +12,7 @@ IsFront g bound front = All (λ x. (x.vertex < vertex_count g) × (due g x ≤ b
 
 -- One such list for each graph, in order.
 abbrev pub AreFronts : ℕ → List Digraph → List (List FrontEntry) → Type 0
-AreFronts bound [] [] = Unit {0}
-AreFronts bound [] (f ∷ fronts) = ⊥
-AreFronts bound (g ∷ graphs) [] = ⊥
-AreFronts bound (g ∷ graphs) (f ∷ fronts) = IsFront g bound f × AreFronts bound graphs fronts
+AreFronts bound graphs fronts = Each (λ g front. IsFront g bound front) graphs fronts
 
 -- The sum of the tasks' demands at t.
 abbrev pub demands : List Digraph → List (List FrontEntry) → ℕ → ℕ

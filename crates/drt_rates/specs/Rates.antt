@@ -1,9 +1,10 @@
 -- The graphs of a set, with a ratio and potentials for each.
 use Rattle.std.specs.Prelude.{ℕ, ◌^◌, ◌<◌, ◌≤◌, ℤ, List, [], ◌∷◌}
-use Rattle.drt_graph.specs.RatioRules.{most_term}
+use Rattle.drt_model.specs.Each.{Each}
 use Rattle.drt_model.specs.Digraph.{Digraph}
-use Rattle.drt_model.specs.Utilisation.{Fraction, IsScale, most_scale}
+use Rattle.drt_model.specs.Utilisation.{Fraction, IsScale}
 use Rattle.drt_graph.specs.Fits.{AreNear}
+use Rattle.drt_model.specs.Numbers.{most_scale, most_term}
 
 -- The numerator is at most 1,000,000,000, and the denominator is 1 to 1,000,000,000.
 pub record IsSmallRatio (r : Fraction) : Type 0 where
@@ -17,7 +18,4 @@ IsTooFine ratios = (scale : ℕ) × IsScale ratios scale × (most_scale < scale)
 
 -- There is an item for each graph, in order, whose fraction is small, and whose heights are potentials near 0.
 abbrev pub AreRated : {X : Type 0} → (X → Fraction) → (X → List ℤ) → List Digraph → List X → Type 0
-AreRated fraction heights [] [] = Unit {0}
-AreRated fraction heights [] (x ∷ items) = ⊥
-AreRated fraction heights (g ∷ graphs) [] = ⊥
-AreRated fraction heights (g ∷ graphs) (x ∷ items) = (IsSmallRatio (fraction x) × AreNear g (heights x)) × AreRated fraction heights graphs items
+AreRated fraction heights graphs items = Each (λ g x. IsSmallRatio (fraction x) × AreNear g (heights x)) graphs items

@@ -1,10 +1,11 @@
 //! The horizon of a set.
 ghost use Rattle.std.specs.Prelude.{◌≡◌, ◌*◌, ◌/◌, ◌^◌, ◌<◌, ◌≤◌, map};
-ghost use Rattle.drt_model.specs.Utilisation.{rate as rate_of, most_scale};
+ghost use Rattle.drt_model.specs.Utilisation.{rate as rate_of};
 ghost use Rattle.drt_graph.specs.Horizon.{extra, constant_of, above_zero};
 ghost use Rattle.drt_graph.specs.Horizon.{horizon as horizon_of};
 ghost use Rattle.drt_graph.specs.Fits.{AreNear};
 ghost use Rattle.drt_rates.specs.Rates.{AreRated, IsSmallRatio};
+ghost use Rattle.drt_model.specs.Numbers.{most_scale};
 
 use crate::rated::Rated;
 use drt_graph::{Graph, Graphs, constant};

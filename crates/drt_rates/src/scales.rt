@@ -1,8 +1,9 @@
 //! The scale and the rate of a set.
 ghost use Rattle.std.specs.Prelude.{◌≡◌, ◌^◌, ◌≤◌, All, MatchOption, length, map};
-ghost use Rattle.drt_model.specs.Utilisation.{IsScale, most_scale};
+ghost use Rattle.drt_model.specs.Utilisation.{IsScale};
 ghost use Rattle.drt_model.specs.Utilisation.{rate as rate_of};
 ghost use Rattle.drt_rates.specs.Rates.{IsSmallRatio, IsTooFine};
+ghost use Rattle.drt_model.specs.Numbers.{most_scale};
 
 use crate::rated::Rated;
 use drt_num::lcm_within;

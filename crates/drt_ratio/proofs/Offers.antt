@@ -3,7 +3,7 @@ use Rattle.std.proofs.Common.{◌≡◌, ℕ, ◌+◌, ◌-◌, ◌*◌, ◌<◌
 use Rattle.std.proofs.lemmas.Bool.{cases_eq}
 use Rattle.std.proofs.lemmas.Nat.{mul-le}
 use Rattle.std.proofs.lemmas.List.{get_or-set_same, get_or-set_other}
-use Rattle.drt_model.specs.Limits.{most_time}
+use Rattle.drt_model.specs.Numbers.{most_time}
 use Rattle.drt_model.specs.Digraph.{Digraph, IsSoundGraph, vertex_count, out_degree, edge_of}
 use Rattle.drt_model.specs.Walk.{sep, wcet}
 use Rattle.drt_graph.proofs.Edges.{source_of, gap_of}

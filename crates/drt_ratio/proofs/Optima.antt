@@ -4,7 +4,7 @@ use Rattle.std.proofs.lemmas.Bool.{cases_lt}
 use Rattle.std.proofs.lemmas.Nat.{mul-le, le-div}
 use Rattle.std.proofs.Math.Nat.{div-mul-le_self, div-le_self, le_trans}
 use Rattle.std.proofs.lemmas.Int.{ints}
-use Rattle.drt_model.specs.Limits.{most_time}
+use Rattle.drt_model.specs.Numbers.{most_time}
 use Rattle.drt_model.specs.Digraph.{Digraph, IsSoundGraph, vertex_count}
 use Rattle.drt_model.specs.Walk.{sep, gap, wcet, IsEdge, IsPath, last_of, work, span, IsCycle, cycle_span}
 use Rattle.drt_graph.proofs.Edges.{target_of, source_of, gap_of}

@@ -1,7 +1,7 @@
 -- The greatest ratio of a graph with its evidence.
 use Rattle.std.specs.Prelude.{ℕ, ◌<◌, ◌≤◌, ℤ, pos, ◌≤ℤ◌, List}
 use Rattle.std.specs.Int.{IsGcd}
-use Rattle.drt_graph.specs.Fits.{most_height}
+use Rattle.drt_model.specs.Numbers.{most_height}
 use Rattle.drt_model.specs.Digraph.{Digraph, vertex_count}
 use Rattle.drt_model.specs.Utilisation.{BoundsCycles, HasRatio, AreDistinct}
 use Rattle.drt_graph.specs.Potential.{potential_of, AreCanonical}

@@ -1,11 +1,12 @@
 -- The ratios of a set, as its claims have them.
 use Rattle.std.specs.Prelude.{◌≡◌, ℕ, ◌*◌, ◌^◌, ◌≤◌, List, [], ◌∷◌, map}
+use Rattle.drt_model.specs.Each.{Each}
 use Rattle.std.specs.Int.{IsGcd}
-use Rattle.drt_graph.specs.RatioRules.{most_term}
 use Rattle.drt_model.specs.Digraph.{Digraph}
-use Rattle.drt_model.specs.Utilisation.{Fraction, AreRatios, IsScale, rate, most_scale}
+use Rattle.drt_model.specs.Utilisation.{Fraction, AreRatios, IsScale, rate}
 use Rattle.drt_ratio.specs.declared.ratio_proof.RatioProof.{RatioProof}
 use Rattle.drt_ratio.specs.Claims.{IsRatioProof}
+use Rattle.drt_model.specs.Numbers.{most_scale, most_term}
 
 -- The fraction of a claim.
 abbrev pub fraction_of_proof : RatioProof → Fraction
@@ -26,10 +27,7 @@ IsUtilisation ratios a b = (scale : ℕ) × IsScale ratios scale × (scale ≤ m
 
 -- Each claim is the ratio of its graph with its evidence, in order.
 abbrev pub AreRatioProofs : List Digraph → List RatioProof → Type 0
-AreRatioProofs [] [] = Unit {0}
-AreRatioProofs [] (p ∷ proofs) = ⊥
-AreRatioProofs (g ∷ graphs) [] = ⊥
-AreRatioProofs (g ∷ graphs) (p ∷ proofs) = IsRatioProof g p.ratio.num p.ratio.den p.cycle p.potentials × AreRatioProofs graphs proofs
+AreRatioProofs graphs proofs = Each (λ g p. IsRatioProof g p.ratio.num p.ratio.den p.cycle p.potentials) graphs proofs
 
 -- Where each claim is the ratio of its graph with its evidence, the claims' fractions are the ratios of the graphs.
 abbrev pub ProofsGiveRatios : Type 0

@@ -1,6 +1,7 @@
 //! Whether a claimed ratio keeps the rules.
 ghost use Rattle.std.specs.Prelude.{◌≤◌, ◌↔◌, IsTrue};
-ghost use Rattle.drt_graph.specs.RatioRules.{ProvesRatio, most_term};
+ghost use Rattle.drt_graph.specs.RatioRules.{ProvesRatio};
+ghost use Rattle.drt_model.specs.Numbers.{most_term};
 
 use crate::ratio_proof::RatioProof;
 use drt_graph::{Graph, is_closed, is_tight, potentials_fit};

@@ -2,7 +2,7 @@
 
 ghost use Rattle.std.specs.Prelude.{◌≡◌, ◌+◌, ◌≤◌, ◌++◌, length, IfOk, vec_capacity};
 ghost use Rattle.drt_effort.specs.Efforts.{most_budget};
-ghost use Rattle.drt_model.specs.Limits.{most_time};
+ghost use Rattle.drt_model.specs.Numbers.{most_time};
 ghost use Rattle.drt_steps.specs.Time.{AreChosen};
 ghost use Rattle.drt_refine.specs.Machine.{opening_state};
 ghost use Rattle.drt_refine.specs.View.{IsFrontier, setting_of, state_of, CanApply, IsFrontierStep};

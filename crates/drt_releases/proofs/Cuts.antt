@@ -2,11 +2,10 @@
 use Rattle.std.proofs.Common.{inl, inr, ◌≡◌, ℕ, ◌+◌, ◌<◌, ◌≤◌, ltb, List, [], ◌∷◌, ◌++◌, length, drop, get_or, refl, sym, subst, arith, ◌∙◌}
 use Rattle.std.proofs.lemmas.Bool.{cases_Bool, le-ltb, lt-ltb, ltb-true}
 use Rattle.std.proofs.lemmas.List.{append-nil, append_assoc}
-use Rattle.drt_model.specs.Limits.{most_time}
+use Rattle.drt_model.specs.Numbers.{most_time}
 use Rattle.drt_model.specs.Digraph.{Digraph, IsSoundGraph, vertex_count}
-use Rattle.drt_model.specs.Walk.{IsPath, gap, last_of, span}
+use Rattle.drt_model.specs.Walk.{IsPath, gap, last_of, span, IsWalk, due_of}
 use Rattle.drt_graph.proofs.Edges.{target_of}
-use Rattle.drt_busy.specs.Choice.{IsWalk, due_of}
 use Rattle.drt_busy.specs.Response.{cut, cut_from}
 use Rattle.drt_busy.proofs.Cuts.{cut_walk}
 

@@ -6,11 +6,11 @@ use Rattle.std.proofs.lemmas.List.Elements.{All-nil, All-cons, All-append}
 use Rattle.drt_model.specs.declared.jobs.Release.{Release}
 use Rattle.drt_model.specs.declared.tasks.Task.{Task}
 use Rattle.drt_model.specs.Digraph.{Digraph, IsSoundGraph, digraph_of, vertex_count}
-use Rattle.drt_model.specs.Walk.{gap, IsPath, deadline, last_of, span}
+use Rattle.drt_model.specs.Walk.{gap, IsPath, deadline, last_of, span, IsWalk, due_of}
 use Rattle.drt_graph.specs.Graphs.{AreGraphs, graph_of, no_graph}
 use Rattle.drt_graph.proofs.Edges.{target_of}
 use Rattle.drt_graph.proofs.Paths.{span_cons}
-use Rattle.drt_busy.specs.Choice.{AreDueBy, AreWalks, IsWalk, due_of, graph_at, no_task}
+use Rattle.drt_busy.specs.Choice.{AreDueBy, AreWalks, graph_at, no_task}
 use Rattle.drt_busy.specs.WalkReleases.{all_releases, release_at, releases_from, releases_of}
 use Rattle.drt_claims.specs.Claims.{graphs_of}
 use Rattle.drt_claims.specs.Ranges.{IsInRangeRelease}

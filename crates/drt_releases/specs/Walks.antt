@@ -3,10 +3,12 @@ use Rattle.std.specs.Prelude.{ℕ, ◌≤◌, ◌<◌, List, [], length, All, sl
 use Rattle.drt_model.specs.declared.tasks.Task.{Task}
 use Rattle.drt_model.specs.Digraph.{Digraph}
 use Rattle.drt_graph.specs.Graphs.{AreGraphs, graph_of}
-use Rattle.drt_busy.specs.Choice.{AreDueBy, AreWalks, IsWalk, due_of}
+use Rattle.drt_busy.specs.Choice.{AreDueBy, AreWalks}
 use Rattle.drt_busy.specs.WalkReleases.{all_releases}
 use Rattle.drt_claims.specs.Claims.{graphs_of}
-use Rattle.drt_claims.specs.Ranges.{IsInRangeRelease, most_ticks}
+use Rattle.drt_claims.specs.Ranges.{IsInRangeRelease}
+use Rattle.drt_model.specs.Walk.{IsWalk, due_of}
+use Rattle.drt_model.specs.Numbers.{most_ticks}
 
 -- The walk of task k in a list of them, one for each task; no walk past its end.
 abbrev pub walk_at : List (List ℕ) → ℕ → List ℕ

@@ -1,6 +1,6 @@
 //! Walks that are cut at a time.
 ghost use Rattle.std.specs.Prelude.{◌≡◌, IfOk};
-ghost use Rattle.drt_busy.specs.Choice.{IsWalk};
+ghost use Rattle.drt_model.specs.Walk.{IsWalk};
 ghost use Rattle.drt_busy.specs.Response.{cut};
 
 use drt_graph::Graph;

@@ -1,9 +1,9 @@
 //! The releases of walks.
 ghost use Rattle.std.specs.Prelude.{◌≡◌, ℕ, ◌<◌, ◌≤◌, List, ◌++◌, length, IfOk};
-ghost use Rattle.drt_claims.specs.Ranges.{most_ticks};
+ghost use Rattle.drt_model.specs.Numbers.{most_ticks};
 ghost use Rattle.drt_model.specs.declared.tasks.Task.{Task};
 ghost use Rattle.drt_model.specs.Digraph.{vertex_count};
-ghost use Rattle.drt_busy.specs.Choice.{IsWalk, due_of};
+ghost use Rattle.drt_model.specs.Walk.{IsWalk, due_of};
 ghost use Rattle.drt_busy.specs.WalkReleases.{all_releases, release_at, releases_of};
 ghost use Rattle.drt_claims.specs.Claims.{graphs_of};
 ghost use Rattle.drt_releases.specs.Walks.{AreDueWalks, walk_at};

@@ -4,8 +4,7 @@ use Rattle.std.specs.Prelude.{nat_lt, slice_index}
 use Rattle.std.proofs.lemmas.List.{length-replicate}
 use Rattle.std.proofs.lemmas.Bool.Decides.{nat_tests}
 use Rattle.drt_model.specs.Digraph.{Digraph}
-use Rattle.drt_model.specs.Walk.{last_of, span, gap, wcet}
-use Rattle.drt_model.specs.RequestFunction.{request, requested_from}
+use Rattle.drt_model.specs.Walk.{last_of, span, gap, wcet, request, requested_from}
 use Rattle.drt_steps.specs.Values.{raise, value_at}
 use Rattle.drt_steps.proofs.Values.{length-raise}
 use Rattle.drt_request.specs.Request.{Request, request_algebra}

@@ -1,6 +1,6 @@
 -- Request labels as values.
 use Rattle.std.specs.Prelude.{ℕ, ◌+◌, ◌*◌, ◌≤◌, Bool, ◌==◌, nat_le, nat_lt, ◌&&◌, false, List, length, replicate}
-use Rattle.drt_model.specs.Limits.{most_time}
+use Rattle.drt_model.specs.Numbers.{most_time}
 use Rattle.drt_label.specs.Algebra.{Algebra}
 use Rattle.drt_steps.specs.Values.{raise, covers, value_at}
 use Rattle.drt_steps.specs.Samples.{samples_of}

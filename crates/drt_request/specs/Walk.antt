@@ -1,8 +1,7 @@
 -- The request label of a walk.
 use Rattle.std.specs.Prelude.{◌≡◌, ℕ, ◌≤◌, List, [], ◌∷◌, ◌++◌, length}
 use Rattle.drt_model.specs.Digraph.{Digraph}
-use Rattle.drt_model.specs.Walk.{last_of, span, gap, wcet}
-use Rattle.drt_model.specs.RequestFunction.{request}
+use Rattle.drt_model.specs.Walk.{last_of, span, gap, wcet, request}
 use Rattle.drt_steps.specs.Values.{value_at}
 use Rattle.drt_request.specs.Request.{Request, request_algebra}
 

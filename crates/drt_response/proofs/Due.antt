@@ -2,11 +2,11 @@
 use Rattle.std.proofs.Common.{inl, inr, ◌≡◌, ℕ, ◌+◌, ◌<◌, ◌≤◌, eqb, ltb, List, [], ◌∷◌, length, refl, sym, ap, ◌∙◌, subst, arith}
 use Rattle.std.proofs.lemmas.Bool.{cases_Bool, eq-eqb, eqb-true, le-ltb, lt-ltb, ne_eqb}
 use Rattle.std.proofs.lemmas.List.{length-map}
-use Rattle.drt_model.specs.Limits.{most_time}
+use Rattle.drt_model.specs.Numbers.{most_time}
 use Rattle.drt_model.specs.declared.tasks.Task.{Task}
 use Rattle.drt_model.specs.Digraph.{Digraph, IsSoundGraph, digraph_of, vertex_count}
 use Rattle.drt_graph.specs.Graphs.{AreGraphs, graph_of, no_graph}
-use Rattle.drt_busy.specs.Choice.{AreWalks, IsWalk, due_of, graph_at, task_at}
+use Rattle.drt_busy.specs.Choice.{AreWalks, graph_at, task_at}
 use Rattle.drt_busy.specs.Response.{cut}
 use Rattle.drt_busy.specs.WalkReleases.{with_job}
 use Rattle.drt_claims.specs.Claims.{graphs_of}
@@ -15,6 +15,7 @@ use Rattle.drt_releases.specs.Walks.{AreDueWalks}
 use Rattle.drt_busy.proofs.Cuts.{cut_walk}
 use Rattle.drt_releases.proofs.Cuts.{cut_due, one_due}
 use Rattle.drt_response.specs.Placed.{job_walk_in_priority_order, walk_in_priority_order}
+use Rattle.drt_model.specs.Walk.{IsWalk, due_of}
 
 -- A walk of the graph that is due by t.
 abbrev IsDueWalk : Digraph → ℕ → List ℕ → Type 0

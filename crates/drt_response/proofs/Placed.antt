@@ -4,7 +4,7 @@ use Rattle.std.specs.List.{AllByRecursion, AllZip}
 use Rattle.drt_model.specs.declared.tasks.Task.{Task}
 use Rattle.drt_model.specs.Digraph.{digraph_of}
 use Rattle.drt_model.specs.Limits.{IsTaskSet}
-use Rattle.drt_busy.specs.Choice.{AreWalks, IsWalk, requests, task_at}
+use Rattle.drt_busy.specs.Choice.{AreWalks, requests, task_at}
 use Rattle.drt_states.specs.Tails.{graphs_of_places}
 use Rattle.drt_states_laws.specs.Laws.{asked_together}
 use Rattle.drt_claims.specs.Searches.{higher_places}
@@ -14,6 +14,7 @@ use Rattle.drt_check.proofs.SoundOrder.{AreWalked, Walked, ordered, ordered_task
 use Rattle.drt_response.specs.Placed.{walk_in_priority_order}
 use Rattle.drt_response.proofs.Higher.{each_ordered, higher, higher_are, ordered_each, places_in, requests_together, walks_in}
 use Rattle.drt_response.proofs.Places.{AreAt, tasks_at}
+use Rattle.drt_model.specs.Walk.{IsWalk}
 
 -- The walk of each is that at its place.
 abbrev HavePlaced : (ℕ → ℕ) → List (List ℕ) → List Walked → Type 0

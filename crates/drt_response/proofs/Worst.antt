@@ -8,7 +8,7 @@ use Rattle.drt_model.specs.declared.jobs.Release.{Release}
 use Rattle.drt_model.specs.Constrained.{AreConstrained}
 use Rattle.drt_model.specs.Contents.{Contents}
 use Rattle.drt_model.specs.Digraph.{IsSoundGraph, vertex_count}
-use Rattle.drt_model.specs.Limits.{IsTaskSet, most_time}
+use Rattle.drt_model.specs.Limits.{IsTaskSet}
 use Rattle.drt_model.specs.Schedulable.{Schedulable}
 use Rattle.drt_model.specs.Walk.{deadline, wcet}
 use Rattle.drt_graph.proofs.Soundness.{all_sound}
@@ -29,6 +29,7 @@ use Rattle.drt_response.specs.Answers.{IsResponseOf}
 use Rattle.drt_response.specs.Placed.{walk_in_priority_order}
 use Rattle.drt_response.proofs.Higher.{first_walks, higher, higher_are, higher_near, higher_sound, places_in, requests_together, walks_in}
 use Rattle.drt_response.proofs.Placed.{placed_are_walks, placed_asked}
+use Rattle.drt_model.specs.Numbers.{most_time}
 
 module _ (version : ℕ) (tasks : List Task) (limits : IsTaskSet version tasks) (tails : List TailClaim) (have : HaveTails tasks tails)
     (k v : ℕ) (task : k < length tasks) (vertex : v < vertex_count (graph_at tasks k)) (ticks : ℕ) (walks : List (List ℕ))

@@ -1,6 +1,6 @@
 //! The releases that reach a response time.
 ghost use Rattle.std.specs.Prelude.{◌≡◌, ◌≤◌, ◌<◌, ℕ, IfOk, length};
-ghost use Rattle.drt_model.specs.Limits.{most_time};
+ghost use Rattle.drt_model.specs.Numbers.{most_time};
 ghost use Rattle.drt_model.specs.Digraph.{vertex_count};
 ghost use Rattle.drt_busy.specs.Choice.{AreWalks, graph_at};
 ghost use Rattle.drt_busy.specs.Response.{reaching};

@@ -2,8 +2,7 @@
 use Rattle.std.proofs.Common.{◌≡◌, [], ◌∷◌, map, refl}
 use Rattle.std.specs.Prelude.{codes}
 use Rattle.drt_model.specs.Digraph.{digraph_of}
-use Rattle.drt_model.specs.RequestFunction.{request, requested_from}
-use Rattle.drt_model.specs.Walk.{sep_in, or_zero}
+use Rattle.drt_model.specs.Walk.{sep_in, or_zero, request, requested_from}
 use Rattle.drt_rows.proofs.Sets.{looped, two_vertices}
 
 -- One vertex (2, 2) with a loop of 4, and its walk of two releases, at 0 and at 4. The second isn't counted at 4, and is at 5.

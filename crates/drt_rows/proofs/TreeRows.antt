@@ -3,8 +3,7 @@ use Rattle.std.proofs.Common.{◌≡◌, ℕ, List, [], ◌∷◌, Option, Some,
 use Rattle.std.specs.Prelude.{codes}
 use Rattle.drt_model.specs.declared.tasks.Task.{Task}
 use Rattle.drt_model.specs.Digraph.{digraph_of}
-use Rattle.drt_model.specs.RequestFunction.{requested_from}
-use Rattle.drt_model.specs.Walk.{sep_in, or_zero}
+use Rattle.drt_model.specs.Walk.{sep_in, or_zero, requested_from}
 use Rattle.drt_claims.specs.Proofs.{after_all, opening_stack, node_parts, passes, subjects_from, tree_sum_at}
 use Rattle.drt_claims.specs.Trees.{by_priority, greatest_deadline, higher_count, joined, latest_deadline, named, node_values, placed, root}
 use Rattle.drt_claims.specs.declared.evidence.Item.TheVariants.{Pass, Split}

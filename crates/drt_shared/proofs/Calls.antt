@@ -4,7 +4,7 @@ use Rattle.std.specs.Prelude.{slice_get, is_none, ◌&&◌, ◌==◌}
 use Rattle.std.proofs.lemmas.Bool.Decides.{nat_tests}
 use Rattle.std.proofs.lemmas.Option.{none-some, same_Some}
 use Rattle.drt_effort.specs.Efforts.{most_budget}
-use Rattle.drt_model.specs.Limits.{most_time}
+use Rattle.drt_model.specs.Numbers.{most_time}
 use Rattle.drt_label.specs.Algebra.{Algebra, Laws}
 use Rattle.drt_model.specs.Digraph.{out_degree}
 use Rattle.drt_table.specs.Machine.{Setting, State, CanStep, Holds, extended}

@@ -2,7 +2,7 @@
 use Rattle.std.specs.Prelude.{◌≡◌, ℕ, ◌+◌, ◌≤◌, None, Some, List, length}
 use Rattle.drt_lock.specs.Rule.{all_parts}
 use Rattle.drt_effort.specs.Efforts.{most_budget}
-use Rattle.drt_model.specs.Limits.{most_time}
+use Rattle.drt_model.specs.Numbers.{most_time}
 use Rattle.atomic_table.specs.Seated.{TableId}
 use Rattle.atomic_table.specs.declared.shared.Seat.{Seat}
 use Rattle.drt_lock.specs.declared.view.SeatView.{SeatView}

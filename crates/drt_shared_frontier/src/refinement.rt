@@ -1,7 +1,7 @@
 //! Working a frontier to its end.
 
 ghost use Rattle.std.specs.Prelude.{◌≡◌, ℕ, ◌≤◌, IfOk, length};
-ghost use Rattle.drt_model.specs.Limits.{most_time};
+ghost use Rattle.drt_model.specs.Numbers.{most_time};
 ghost use Rattle.drt_pool.specs.Turns.{EachPlace, IsEndOfTurns};
 ghost use Rattle.drt_refine.specs.Drive.{StopsAt};
 ghost use Rattle.drt_refine.specs.Eager.{IsEager};

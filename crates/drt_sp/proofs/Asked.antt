@@ -8,8 +8,9 @@ use Rattle.std.proofs.lemmas.List.Sorted.{IsPermutation-map, sum_by-IsPermutatio
 use Rattle.std.proofs.lemmas.List.Sums.{sum_by-cons}
 use Rattle.std.proofs.lemmas.Option.{get_or_from_slice_get, slice_get_within, same_Some}
 use Rattle.drt_model.specs.declared.tasks.Task.{Task}
-use Rattle.drt_busy.specs.Choice.{graph_at, request_of, requests, task_at}
+use Rattle.drt_busy.specs.Choice.{graph_at, requests, task_at}
 use Rattle.drt_check_trees.specs.Order.{IsOrder}
+use Rattle.drt_model.specs.Walk.{request_of}
 
 -- the priorities of the tasks rise
 abbrev pub AreRising : List Task → List ℕ → Type 0

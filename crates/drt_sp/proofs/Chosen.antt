@@ -5,9 +5,9 @@ use Rattle.std.proofs.lemmas.List.{append-nil, append_assoc, drop_more}
 use Rattle.std.proofs.lemmas.Option.{none-some, same_Some}
 use Rattle.drt_model.specs.declared.tasks.Task.{Task}
 use Rattle.drt_model.specs.Digraph.{Digraph, IsSoundGraph, vertex_count}
-use Rattle.drt_model.specs.Walk.{IsPath, gap, last_of, span}
+use Rattle.drt_model.specs.Walk.{IsPath, gap, last_of, span, IsWalk, due_of}
 use Rattle.drt_graph.proofs.Edges.{target_of}
-use Rattle.drt_busy.specs.Choice.{IsWalk, due_of, graph_at}
+use Rattle.drt_busy.specs.Choice.{graph_at}
 use Rattle.drt_tree.specs.Tree.{Plain, walk}
 use Rattle.drt_sp.specs.Choices.{chosen}
 use Rattle.drt_busy.specs.Response.{cut, cut_from}

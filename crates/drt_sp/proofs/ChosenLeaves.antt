@@ -3,7 +3,7 @@ use Rattle.std.proofs.Common.{inl, inr, ◌≡◌, ℕ, suc, ◌<◌, ◌≤◌,
 use Rattle.std.proofs.lemmas.Bool.{cases_eq, eq-eqb, ne_eqb}
 use Rattle.std.proofs.lemmas.List.Elements.{All-head, All-tail, All-weaker}
 use Rattle.drt_model.specs.declared.tasks.Task.{Task}
-use Rattle.drt_busy.specs.Choice.{AreWalks, IsWalk, graph_at, request_of, task_at}
+use Rattle.drt_busy.specs.Choice.{AreWalks, graph_at, task_at}
 use Rattle.drt_steps.specs.Time.{sum_at}
 use Rattle.drt_tree.specs.Tree.{Plain, walk}
 use Rattle.drt_refine.specs.Below.{AreBelow}
@@ -12,6 +12,7 @@ use Rattle.drt_busy.specs.Response.{cut}
 use Rattle.drt_sp.proofs.Asked.{AreRising, asked, rising_first, rising_tail}
 use Rattle.drt_busy.proofs.Cuts.{cut_walk}
 use Rattle.drt_sp.proofs.Cuts.{cut_asks}
+use Rattle.drt_model.specs.Walk.{IsWalk, request_of}
 
 -- a tuple below some nodes is as long as they are
 pub below_length : (f : Plain) (tuple roots : List ℕ) → AreBelow f tuple roots → length tuple ≡ length roots

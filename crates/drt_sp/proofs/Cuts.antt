@@ -2,9 +2,7 @@
 use Rattle.std.proofs.Common.{inl, inr, ◌≡◌, ℕ, ◌+◌, ◌≤◌, cond, ltb, List, [], ◌∷◌, refl, ap, arith}
 use Rattle.std.proofs.lemmas.Bool.{cases_Bool, le-ltb, ltb-false}
 use Rattle.drt_model.specs.Digraph.{Digraph}
-use Rattle.drt_model.specs.RequestFunction.{requested_from}
-use Rattle.drt_model.specs.Walk.{IsPath, gap, wcet}
-use Rattle.drt_busy.specs.Choice.{IsWalk, request_of}
+use Rattle.drt_model.specs.Walk.{IsPath, gap, wcet, requested_from, IsWalk, request_of}
 use Rattle.drt_busy.specs.Response.{cut, cut_from}
 
 module _ (g : Digraph) where

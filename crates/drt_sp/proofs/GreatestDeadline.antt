@@ -4,10 +4,11 @@ use Rattle.std.proofs.lemmas.List.Elements.{All-head, All-tail}
 use Rattle.drt_model.specs.declared.tasks.Task.{Task}
 use Rattle.drt_model.specs.declared.tasks.Vertex.{Vertex}
 use Rattle.drt_model.specs.Digraph.{no_vertex, vertex_count}
-use Rattle.drt_model.specs.Limits.{IsTask, IsTaskSet, IsVertex, most_time}
+use Rattle.drt_model.specs.Limits.{IsTask, IsTaskSet, IsVertex}
 use Rattle.drt_model.specs.Walk.{deadline}
 use Rattle.drt_busy.specs.Choice.{graph_at, no_task, task_at}
 use Rattle.drt_claims.specs.Trees.{greatest_deadline, latest_deadline}
+use Rattle.drt_model.specs.Numbers.{most_time}
 
 pub latest_bounds : (vertices : List Vertex) (v : ℕ) (d : Vertex) → v < length vertices → (get_or vertices v d).deadline ≤ latest_deadline vertices
 unfolding latest_deadline

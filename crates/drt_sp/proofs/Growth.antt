@@ -13,7 +13,7 @@ use Rattle.drt_tree.specs.Tree.{Grows, IsForest, Plain, leaves}
 use Rattle.drt_refine.specs.Below.{AreNodes}
 use Rattle.drt_sp.specs.Choices.{AreTrees, FirstPass, StandsFor}
 use Rattle.drt_check_trees.specs.Order.{IsOrder}
-use Rattle.drt_claims.specs.Claims.{Each}
+use Rattle.drt_model.specs.Each.{Each}
 use Rattle.drt_claims.specs.Ranges.{IsInRangeTree}
 use Rattle.drt_claims.specs.Trees.{greatest_deadline}
 use Rattle.drt_claims.specs.declared.evidence.ProofClaim.{ProofClaim}

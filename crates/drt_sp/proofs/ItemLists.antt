@@ -4,7 +4,7 @@ use Rattle.std.specs.Prelude.{slice_get, slice_set}
 use Rattle.std.proofs.lemmas.List.{append-nil}
 use Rattle.std.proofs.lemmas.List.Elements.{All-append, All-cons, All-push, All-nil}
 use Rattle.std.proofs.lemmas.Option.{slice_get_within}
-use Rattle.drt_model.specs.Limits.{most_time}
+use Rattle.drt_model.specs.Numbers.{most_time}
 use Rattle.drt_worklist.proofs.Lists.{length_join}
 use Rattle.drt_tree.specs.Tree.{Plain}
 use Rattle.drt_claims.specs.Ranges.{IsInRangeItem, IsNumber}

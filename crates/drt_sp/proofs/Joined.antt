@@ -15,7 +15,7 @@ use Rattle.drt_sp.specs.declared.joints.Joint.{Joint}
 use Rattle.drt_sp.proofs.Attempted.{deadline_small}
 use Rattle.std.proofs.lemmas.Grind.{common_steps}
 use Rattle.std.proofs.lemmas.Result.{IfOk-weaker}
-use Rattle.drt_model.specs.Limits.{most_time}
+use Rattle.drt_model.specs.Numbers.{most_time}
 
 -- what is written into a whole list is the list
 pub written_whole : {A : Type 0} (new old : List A) (n : ℕ) → length new ≡ n → length old ≡ n → take n (new ++ drop (length new) old) ≡ new

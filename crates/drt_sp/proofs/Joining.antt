@@ -15,7 +15,7 @@ use Rattle.drt_refine.proofs.Below.{below_half, chosen_halves, length_set, passe
 use Rattle.drt_sp.specs.Items.{AreHalves, AreItems, IsProofOf, NonePasses, none, pass, split}
 use Rattle.drt_worklist.proofs.Writes.{length_set as length_write, set_at}
 use Rattle.std.proofs.lemmas.Option.{same_Some}
-use Rattle.drt_model.specs.Limits.{most_time}
+use Rattle.drt_model.specs.Numbers.{most_time}
 use Rattle.drt_refine.specs.Combination.{Combination}
 use Rattle.drt_sp.specs.declared.parts.Part.{Part}
 use Rattle.drt_sp.specs.Parts.{AreEndOf, CanEnd, HasParts, IsEndOf, IsNextItem, IsPart, upright}

@@ -3,17 +3,17 @@ use Rattle.std.proofs.Common.{inl, inr, ◌≡◌, ℕ, zero, suc, ◌+◌, ◌<
 use Rattle.std.proofs.Common.{sym, ap, ◌∙◌, subst, arith}
 use Rattle.std.proofs.lemmas.Bool.{cases_Bool, eqb-true}
 use Rattle.std.proofs.lemmas.List.{length-map}
-use Rattle.drt_model.specs.Limits.{most_time}
+use Rattle.drt_model.specs.Numbers.{most_time}
 use Rattle.drt_model.specs.Contents.{Contents}
 use Rattle.drt_model.specs.Constrained.{AreConstrained}
 use Rattle.drt_model.specs.Digraph.{Digraph, IsSoundGraph, digraph_of, vertex_count}
-use Rattle.drt_model.specs.Walk.{deadline}
+use Rattle.drt_model.specs.Walk.{deadline, IsWalk, due_of}
 use Rattle.drt_model.specs.declared.jobs.Miss.{Miss}
 use Rattle.drt_model.specs.declared.jobs.Release.{Release}
 use Rattle.drt_model.specs.declared.tasks.Task.{Task}
 use Rattle.drt_model.proofs.JobLemmas.{length-jobs_of}
 use Rattle.drt_graph.specs.Graphs.{AreGraphs, graph_of, no_graph}
-use Rattle.drt_busy.specs.Choice.{AreDueBy, AreWalks, IsWalk, due_of, graph_at, task_at}
+use Rattle.drt_busy.specs.Choice.{AreDueBy, AreWalks, graph_at, task_at}
 use Rattle.drt_busy.specs.WalkReleases.{all_releases, releases_of, with_job}
 use Rattle.drt_tree.specs.Tree.{IsForest, IsPair, LeadsToLeaf, Plain, children, walk}
 use Rattle.drt_refine.specs.Below.{AreBelow, AreNodes}

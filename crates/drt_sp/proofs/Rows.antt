@@ -14,10 +14,9 @@ use Rattle.drt_model.specs.Digraph.{digraph_of, vertex_count}
 use Rattle.drt_model.specs.Legal.{IsLegal}
 use Rattle.drt_model.specs.Limits.{IsEdgeAmong, IsName, IsNameByte, IsTask, IsTaskSet, IsVertex}
 use Rattle.drt_model.specs.Misses.{IsLeastMiss}
-use Rattle.drt_model.specs.RequestFunction.{requested_from}
 use Rattle.drt_model.specs.Schedulable.{jobs_of}
-use Rattle.drt_model.specs.Walk.{IsPath, gap, or_zero, sep_in}
-use Rattle.drt_busy.specs.Choice.{IsWalk, graph_at, request_of, requests, task_at}
+use Rattle.drt_model.specs.Walk.{IsPath, gap, or_zero, sep_in, requested_from, IsWalk, request_of}
+use Rattle.drt_busy.specs.Choice.{graph_at, requests, task_at}
 use Rattle.drt_busy.specs.WalkReleases.{all_releases, releases_from, with_job}
 use Rattle.drt_busy.proofs.Decide.{requests_miss}
 use Rattle.drt_busy.proofs.FixedWalks.{times_suffice_for_task}

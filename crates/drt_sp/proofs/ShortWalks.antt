@@ -3,23 +3,17 @@ use Rattle.std.proofs.Common.{◌≡◌, ℕ, ◌+◌, ◌<◌, ◌≤◌, inl, 
 use Rattle.std.proofs.lemmas.Bool.{cases_Bool}
 use Rattle.std.proofs.lemmas.Bool.Decides.{nat_tests}
 use Rattle.std.proofs.lemmas.List.Elements.{All-cons, All-nil}
-use Rattle.drt_model.specs.Limits.{most_time}
+use Rattle.drt_model.specs.Numbers.{most_time}
 use Rattle.drt_model.specs.Digraph.{Digraph, IsSoundGraph, vertex_count}
-use Rattle.drt_model.specs.RequestFunction.{request}
-use Rattle.drt_model.specs.Walk.{gap, IsPath, span}
+use Rattle.drt_model.specs.Walk.{gap, IsPath, span, request, IsWalk, request_of}
 use Rattle.drt_graph.proofs.Edges.{edge_of_sep, source_of, target_of}
 use Rattle.drt_graph.proofs.Paths.{span_cons, span_none}
-use Rattle.drt_busy.specs.Choice.{IsWalk, request_of}
 use Rattle.drt_busy.specs.Response.{cut, cut_from}
 use Rattle.drt_busy.proofs.Cuts.{cut_walk}
 use Rattle.drt_claims.specs.Ranges.{IsInRangeWalk, IsNumber}
-use Rattle.drt_claims.specs.Trees.{IsAbove, IsShortWalk, asked}
+use Rattle.drt_claims.specs.Trees.{IsAbove, IsShortWalk}
 
-pub asked_is : (g : Digraph) (t : ℕ) (w : List ℕ) → asked g t w ≡ request_of g w t
-asked_is g t [] = refl
-asked_is g t (u ∷ vs) = refl
-
-pub above_asks : (bound : ℕ) (g : Digraph) (u : ℕ) (vs w : List ℕ) (t : ℕ) → IsAbove bound g u vs w → 1 ≤ t → t ≤ bound → request g u vs t ≤ asked g t w
+pub above_asks : (bound : ℕ) (g : Digraph) (u : ℕ) (vs w : List ℕ) (t : ℕ) → IsAbove bound g u vs w → 1 ≤ t → t ≤ bound → request g u vs t ≤ request_of g w t
 above_asks bound g u vs [] t above from to = absurd above
 above_asks bound g u vs (x ∷ xs) t above from to = above.2 t from to
 

@@ -11,14 +11,12 @@ use Rattle.std.proofs.lemmas.List.Elements.{All-map, All-weaker, All-get_or, All
 use Rattle.std.proofs.lemmas.List.FromFn.{length-map-range_with_len, get_or-map-range_with_len}
 use Rattle.std.proofs.lemmas.List.Sorted.{length_permutation}
 use Rattle.std.proofs.lemmas.Option.{none-some, same_Some, slice_get-map, slice_get_within, slice_get-get_or, get_or_from_slice_get}
-use Rattle.drt_model.specs.Limits.{most_time}
+use Rattle.drt_model.specs.Numbers.{most_time}
 use Rattle.drt_model.specs.Digraph.{Digraph, IsSoundGraph, vertex_count, out_degree, edge_of}
-use Rattle.drt_model.specs.RequestFunction.{request}
-use Rattle.drt_model.specs.Walk.{last_of, span}
+use Rattle.drt_model.specs.Walk.{last_of, span, request, IsWalk, request_of}
 use Rattle.drt_graph.proofs.Edges.{sep_of_edge, gap_of}
 use Rattle.drt_graph.proofs.Paths.{path_both, path_within, span_both, span_cons, span_none}
 use Rattle.drt_steps.specs.Values.{value_at}
-use Rattle.drt_busy.specs.Choice.{IsWalk, request_of}
 use Rattle.drt_tree.specs.Leaf.{is_leaf_before}
 use Rattle.drt_tree.specs.Shape.{Shape, parts as leaf_count, pairs as pair_count, root_of, IsTreeAdded}
 use Rattle.drt_tree.specs.Tree.{Plain, IsForest, IsPair, IsUnder, LeadsToLeaf, children, node_children, leaves, node_values_in, walk, node_walk, leaf_node, leaf_steps, with_leaves}
@@ -35,7 +33,7 @@ use Rattle.drt_claims.specs.declared.evidence.TreeClaim.{TreeClaim}
 use Rattle.drt_sp.specs.TaskTrees.{AreWalkLeaves, IsTaskTree, IsWalkLeaf, pair_of, pairs_from, walks_from}
 use Rattle.drt_sp.specs.TreeClaims.{HaveOneLabel, IsClaimOf, IsExactTree, IsNonDominatedWalk, IsTreeOf, lowered}
 use Rattle.drt_sp.specs.declared.trees.TaskTree.{TaskTree}
-use Rattle.drt_sp.proofs.ShortWalks.{above_asks, asked_is, cut_short, walk_in_range, walk_is}
+use Rattle.drt_sp.proofs.ShortWalks.{above_asks, cut_short, walk_in_range, walk_is}
 use Rattle.drt_sp.proofs.TreeLeaves.{any_at, leaves_permutation}
 use Rattle.drt_sp.proofs.TreeShapes.{HasKids, kids, named_once, pairs_of, pairs_stand, parts_pairs, root_last, under_all, under_range}
 use Rattle.drt_sp.proofs.TreeValues.{IsJoin, joined_is, most_value}
@@ -193,7 +191,7 @@ module _ (f h : Plain) (ls : List Leaf) (top : ℕ) (old : IsForest f) (added : 
     is_leaf : (i : ℕ) (l : Leaf) → slice_get added.sorted i ≡ Some l → IsWalkLeaf bound g l
     is_leaf i l at = subst (IsWalkLeaf bound g) (get_or_from_slice_get added.sorted i l l at) (All-get_or (IsWalkLeaf bound g) added.sorted i l (slice_get_within added.sorted i l at) are.each)
 
-    leaf_value : (i : ℕ) (l : Leaf) (t : ℕ) → slice_get added.sorted i ≡ Some l → 1 ≤ t → t ≤ bound → value_at (node_values_in h (low + i)) t ≡ asked g t l.walk
+    leaf_value : (i : ℕ) (l : Leaf) (t : ℕ) → slice_get added.sorted i ≡ Some l → 1 ≤ t → t ≤ bound → value_at (node_values_in h (low + i)) t ≡ request_of g l.walk t
     leaf_value i l t at from to = ap (λ xs. value_at xs t) (leaf_at i l at).steps ∙ (is_leaf i l at).values t from to
 
     -- There is a leaf, since a graph has a vertex.
@@ -227,7 +225,7 @@ module _ (f h : Plain) (ls : List Leaf) (top : ℕ) (old : IsForest f) (added : 
       asks = λ n t u from to.
           let i = under_leaf n u in
           subst (λ k. value_at (node_values_in h k) t ≡ request_of g (walk h k) t) i.number
-          (leaf_value i.place i.leaf t i.at from to ∙ (asked_is g t i.leaf.walk ∙ ap (λ w. request_of g w t) (sym (leaf_walk i.place i.leaf i.at))));
+          (leaf_value i.place i.leaf t i.at from to ∙ ap (λ w. request_of g w t) (sym (leaf_walk i.place i.leaf i.at)));
     }
       where
         covers : (w : List ℕ) → IsWalk g w → (leaf : ℕ) × IsUnder h leaf top × ((t : ℕ) → 1 ≤ t → t ≤ bound → request_of g w t ≤ value_at (node_values_in h leaf) t)
@@ -385,14 +383,14 @@ module _ (f h : Plain) (ls : List Leaf) (top : ℕ) (old : IsForest f) (added : 
 
     written_values : (k t : ℕ) → 1 ≤ count → k ≤ root written → 1 ≤ t → t ≤ bound → slice_index_or (node_values g written t) k 0 ≡ value_of t k
     written_values k t some le from to =
-        let vs : List ℕ = map (asked g t) walks_are in
-        let n : length vs ≡ count = length-map walks_are (asked g t) ∙ walks_long in
+        let vs : List ℕ = map (λ walk. request_of g walk t) walks_are in
+        let n : length vs ≡ count = length-map walks_are (λ walk. request_of g walk t) ∙ walks_long in
         joined_is (value_of t) vs pairs_are
         (λ i l.
         let w : i < count = omega (arith, l, n) in
         let leaf : Leaf = get_or added.sorted i default_leaf in
         let at : slice_get added.sorted i ≡ Some leaf = slice_get-get_or added.sorted i default_leaf w in
-        get_or_from_slice_get vs i (asked g t leaf.walk) 0 (map_got (asked g t) walks_are i leaf.walk (map_got (λ (x : Leaf). x.walk) added.sorted i leaf at))
+        get_or_from_slice_get vs i (request_of g leaf.walk t) 0 (map_got (λ walk. request_of g walk t) walks_are i leaf.walk (map_got (λ (x : Leaf). x.walk) added.sorted i leaf at))
         ∙ sym (leaf_value i leaf t at from to))
         (λ i p at. subst (λ m. IsJoin (value_of t) (m + i) p) (sym n) (join_at t i p at))
         k (let a = walks_long in let b = pairs_long in let c = pairs_counted in omega (arith, le, n, a, b, c))

@@ -17,11 +17,12 @@ use Rattle.drt_table.specs.Cover.{IsFront, KeptAt}
 use Rattle.drt_table.specs.Machine.{Setting}
 use Rattle.drt_table.specs.Node.{NodeOf, is_kept}
 use Rattle.drt_tree.specs.declared.leaf.Leaf.{Leaf}
-use Rattle.drt_claims.specs.Trees.{IsAbove, IsShortWalk, asked}
+use Rattle.drt_claims.specs.Trees.{IsAbove, IsShortWalk}
 use Rattle.drt_sp.specs.Gathering.{AreLeavesGathered, IsLeafOfNode}
 use Rattle.drt_sp.specs.TaskTrees.{AreWalkLeaves, IsWalkLeaf}
 use Rattle.drt_sp.specs.TreeClaims.{HaveOneLabel, IsNonDominatedWalk}
 use Rattle.drt_sp.proofs.RequestWalks.{IsLabelled, walk_short, short_walk, above_of, dominates_of, same_labels, one_label}
+use Rattle.drt_model.specs.Walk.{request_of}
 
 -- An element of a list with one more at its end.
 got_push : {A : Type 0} (xs : List A) (y : A) (i : ℕ) (x : A) → slice_get (xs ++ y ∷ []) i ≡ Some x → (slice_get xs i ≡ Some x) ⊎ ((i ≡ length xs) × (y ≡ x))
@@ -109,7 +110,7 @@ module _ (t : Setting) (nodes : List (NodeOf Request)) where
         record {
           short = subst (IsShortWalk t.bound t.graph) (sym w.is) w.short;
           long = ap length is.steps ∙ w.label.long;
-          values = λ k from to. ap (λ xs. value_at xs k) is.steps ∙ (w.label.values k from to ∙ ap (λ xs. asked t.graph k xs) (sym w.is));
+          values = λ k from to. ap (λ xs. value_at xs k) is.steps ∙ (w.label.values k from to ∙ ap (λ xs. request_of t.graph xs k) (sym w.is));
         }
 
     alone_is : (i : ℕ) (n : NodeOf Request) (l : Leaf) → KeptAt request_algebra t nodes i n → IsLeafOfNode t n l → IsNonDominatedWalk t.bound t.graph l.walk

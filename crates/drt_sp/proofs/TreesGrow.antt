@@ -5,7 +5,7 @@ use Rattle.drt_model.specs.Digraph.{Digraph}
 use Rattle.drt_steps.specs.Values.{value_at}
 use Rattle.drt_tree.specs.Tree.{Plain, Grows, IsForest, IsPair, LeadsToLeaf, children, node_values_in, walk, node_walk}
 use Rattle.drt_tree.proofs.Trees.{children_stay, get_front, grows_long, values_stay}
-use Rattle.drt_busy.specs.Choice.{IsWalk, request_of}
+use Rattle.drt_model.specs.Walk.{IsWalk, request_of}
 use Rattle.drt_sp.specs.Choices.{StandsFor}
 use Rattle.drt_claims.specs.Trees.{root}
 use Rattle.drt_claims.specs.declared.evidence.TreeClaim.{TreeClaim}

@@ -13,6 +13,7 @@ use Rattle.drt_claims.specs.declared.evidence.Pair.{Pair}
 use Rattle.drt_sp.specs.TaskTrees.{IsWalkLeaf}
 use Rattle.drt_sp.specs.Written.{HasHalves, AreHalvedPairs, leaf_of, pair, walk}
 use Rattle.drt_sp.proofs.TreeShapes.{pairs_of, root_last}
+use Rattle.drt_model.specs.Walk.{request_of}
 
 -- There are as many pairs as the tree has.
 pub pairs_length : (s : Shape) (low first : ℕ) → length (pairs_of s low first) ≡ pairs s
@@ -62,7 +63,7 @@ claim_halved s halved walks long =
 leaf_is : (bound : ℕ) (g : Digraph) (l : Leaf) → IsWalkLeaf bound g l → leaf_of bound g l.walk ≡ l
 unfolding value_at
 leaf_is bound g l is =
-    let f : ℕ → ℕ = λ t. asked g t l.walk in
+    let f : ℕ → ℕ = λ t. request_of g l.walk t in
     let steps : map f (range_with_len 1 bound) ≡ l.steps = ext_get_or 0 (map f (range_with_len 1 bound)) l.steps (length-map-range_with_len f 1 bound ∙ sym is.long) (λ i within.
     let w : i < bound = omega (arith, within, length-map-range_with_len f 1 bound) in
     let e : 1 + i - 1 ≡ i = omega arith in

@@ -19,7 +19,7 @@ use Rattle.drt_busy.specs.Decide.{TimesDecide}
 use Rattle.drt_tree.specs.Tree.{Plain}
 use Rattle.drt_sp.specs.Choices.{VertexPasses}
 use Rattle.drt_check_trees.specs.Order.{IsOrder}
-use Rattle.drt_claims.specs.Claims.{Each}
+use Rattle.drt_model.specs.Each.{Each}
 use Rattle.drt_claims.specs.Proofs.{HasPassingTimes, HasShape, HasPassingTime, after_all, opening_stack, passes, subjects_from}
 use Rattle.drt_claims.specs.Ranges.{IsEvidenceInRange, IsInRangeProof}
 use Rattle.drt_claims.specs.Trees.{CoversWalks, HasShortWalks, IsTree, by_priority, greatest_deadline, higher_count, root, tree_graphs}

@@ -19,7 +19,7 @@ use Rattle.drt_refine.specs.declared.step.FrontierEntry.{FrontierEntry}
 use Rattle.drt_table.specs.declared.step.Entry.{Entry}
 use Rattle.drt_sp.specs.Choices.{FirstPass, VertexPasses}
 use Rattle.drt_sp.specs.ChoiceLaws.{IsPosed, no_releases}
-use Rattle.drt_claims.specs.Claims.{Each}
+use Rattle.drt_model.specs.Each.{Each}
 use Rattle.drt_claims.specs.Ranges.{IsEvidenceInRange}
 use Rattle.drt_claims.specs.Rules.{Accepts}
 use Rattle.drt_claims.specs.Trees.{greatest_deadline, tree_graphs}

@@ -1,7 +1,7 @@
 -- The attempts at the vertices of a task that spent their steps, and the parts that workers make of the combinations that these left open.
 use Rattle.std.specs.Prelude.{◌≡◌, ℕ, ◌<◌, ◌≤◌, ◌⊎◌, Option, Some, List, Vec, length, slice_get}
 use Rattle.std.specs.declared.alloc.Global.{Global}
-use Rattle.drt_model.specs.Limits.{most_time}
+use Rattle.drt_model.specs.Numbers.{most_time}
 use Rattle.drt_model.specs.Digraph.{Digraph, vertex_count}
 use Rattle.drt_model.specs.Walk.{deadline, wcet}
 use Rattle.drt_claims.specs.declared.evidence.Item.{Item}

@@ -4,8 +4,8 @@ use Rattle.std.specs.List.{range_with_len}
 use Rattle.std.specs.List.Sorted.{IsPermutation}
 use Rattle.drt_model.specs.declared.tasks.Task.{Task}
 use Rattle.drt_model.specs.Digraph.{Digraph, vertex_count}
-use Rattle.drt_model.specs.Walk.{deadline, wcet}
-use Rattle.drt_busy.specs.Choice.{AreWalks, IsWalk, graph_at, request_of, requests, task_at}
+use Rattle.drt_model.specs.Walk.{deadline, wcet, IsWalk, request_of}
+use Rattle.drt_busy.specs.Choice.{AreWalks, graph_at, requests, task_at}
 use Rattle.drt_busy.specs.Response.{cut}
 use Rattle.drt_steps.specs.Values.{value_at}
 use Rattle.drt_tree.specs.Tree.{Plain, IsUnder, node_values_in, walk}

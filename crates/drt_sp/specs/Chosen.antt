@@ -1,8 +1,9 @@
 -- Tuples of leaves, one for each of the first tasks of an order.
 use Rattle.std.specs.Prelude.{◌≡◌, ℕ, ◌≤◌, ◌<◌, ◌==◌, if◌then◌else◌, Option, None, Some, List, [], ◌∷◌, length, slice_index}
 use Rattle.drt_model.specs.declared.tasks.Task.{Task}
-use Rattle.drt_busy.specs.Choice.{IsWalk, graph_at}
+use Rattle.drt_busy.specs.Choice.{graph_at}
 use Rattle.drt_tree.specs.Tree.{Plain, children, walk}
+use Rattle.drt_model.specs.Walk.{IsWalk}
 
 -- It is a leaf of the forest, and its walk is one of task k.
 pub record IsLeafOf (tasks : List Task) (f : Plain) (k leaf : ℕ) : Type 0 where

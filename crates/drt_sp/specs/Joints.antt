@@ -1,6 +1,6 @@
 -- Attempts whose parts are put together.
 use Rattle.std.specs.Prelude.{◌≡◌, ℕ, ◌<◌, ◌≤◌, List, All, length, slice_index_or, IfOk, IfSome}
-use Rattle.drt_model.specs.Limits.{most_time}
+use Rattle.drt_model.specs.Numbers.{most_time}
 use Rattle.drt_model.specs.Digraph.{Digraph}
 use Rattle.drt_claims.specs.Ranges.{IsCounted}
 use Rattle.drt_refine.specs.Eager.{IsEager}

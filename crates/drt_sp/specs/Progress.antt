@@ -7,7 +7,7 @@ use Rattle.drt_busy.specs.Choice.{graph_at}
 use Rattle.drt_tree.specs.Tree.{IsForest, Plain}
 use Rattle.drt_sp.specs.Choices.{AreTrees, FirstPass}
 use Rattle.drt_check_trees.specs.Order.{IsOrder}
-use Rattle.drt_claims.specs.Claims.{Each}
+use Rattle.drt_model.specs.Each.{Each}
 use Rattle.drt_claims.specs.Ranges.{IsInRangeProof, IsInRangeTree}
 use Rattle.drt_claims.specs.Trees.{greatest_deadline}
 use Rattle.drt_claims.specs.declared.evidence.ProofClaim.{ProofClaim}

@@ -1,7 +1,7 @@
 -- How a search of a task's walks becomes a tree of the forest and a claim.
 use Rattle.std.specs.Prelude.{◌≡◌, ℕ, ◌+◌, ◌-◌, ◌*◌, ◌≤◌, Option, None, Some, List, ◌∷◌, length, map, slice_get, All, Any}
 use Rattle.std.specs.List.{range_with_len}
-use Rattle.drt_model.specs.Limits.{most_time}
+use Rattle.drt_model.specs.Numbers.{most_time}
 use Rattle.drt_model.specs.Digraph.{Digraph}
 use Rattle.drt_steps.specs.Values.{value_at}
 use Rattle.drt_tree.specs.Tree.{Plain, Grows, children, leaves, walk}
@@ -14,12 +14,13 @@ use Rattle.drt_sp.specs.TreeClaims.{HaveOneLabel, IsClaimOf, IsNonDominatedWalk,
 use Rattle.drt_sp.specs.declared.trees.TaskTree.{TaskTree}
 use Rattle.drt_sp.specs.declared.trees.TreeSearch.{TreeSearch}
 use Rattle.drt_sp.specs.declared.trees.TreeSearch.TheVariants.{Spent, Tree}
+use Rattle.drt_model.specs.Walk.{request_of}
 
 -- The walk spans less than the bound, and the function is what it asks for.
 pub record IsWalkLeaf (bound : ℕ) (g : Digraph) (l : Leaf) : Type 0 where
   pub short : IsShortWalk bound g l.walk
   pub long : length l.steps ≡ bound
-  pub values : (t : ℕ) → 1 ≤ t → t ≤ bound → value_at l.steps t ≡ asked g t l.walk
+  pub values : (t : ℕ) → 1 ≤ t → t ≤ bound → value_at l.steps t ≡ request_of g l.walk t
 
 -- Leaves of walks that no other walk dominates, one for each label of such a walk.
 pub record AreWalkLeaves (bound : ℕ) (g : Digraph) (ls : List Leaf) : Type 0 where

@@ -7,12 +7,13 @@ use Rattle.drt_model.specs.Digraph.{Digraph, digraph_of}
 use Rattle.drt_tree.specs.Leaf.{is_leaf_before}
 use Rattle.drt_tree.specs.declared.leaf.Leaf.{Leaf}
 use Rattle.drt_claims.specs.Proofs.{HasPassingTime, after, opening_stack}
-use Rattle.drt_claims.specs.Trees.{asked, higher_count, root, tree_graphs}
+use Rattle.drt_claims.specs.Trees.{higher_count, root, tree_graphs}
 use Rattle.drt_claims.specs.declared.evidence.Item.{Item}
 use Rattle.drt_claims.specs.declared.evidence.Item.TheVariants.{Pass, Split}
 use Rattle.drt_claims.specs.declared.evidence.Pair.{Pair}
 use Rattle.drt_claims.specs.declared.evidence.ProofClaim.{ProofClaim}
 use Rattle.drt_claims.specs.declared.evidence.TreeClaim.{TreeClaim}
+use Rattle.drt_model.specs.Walk.{request_of}
 
 -- The pairs of a halved tree over so many walks, numbered from low on, where the pairs have the numbers from first on, and the number of its
 -- root. One walk is a tree by itself. Of more walks the first part has half, or one more than the second; the pairs of the first part stand
@@ -28,7 +29,7 @@ HasHalves tree = AreHalvedPairs (length tree.walks) 0 (length tree.walks) tree.p
 
 -- What the walk asks for before each time from 1 to the bound, and its vertices: by these, leaves are put in order.
 abbrev pub leaf_of : ℕ → Digraph → List ℕ → Leaf
-leaf_of bound g w = record { steps = map (λ t. asked g t w) (range_with_len 1 bound); walk = w }
+leaf_of bound g w = record { steps = map (λ t. request_of g w t) (range_with_len 1 bound); walk = w }
 
 -- The tree's walks stand in order: by what they ask for before the bound, then by what they ask for before each earlier time, and then by
 -- their vertices.

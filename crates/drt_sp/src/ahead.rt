@@ -1,6 +1,6 @@
 //! Searches of several tasks' walks, side by side and ahead of their turn.
 ghost use Rattle.std.specs.Prelude.{◌≡◌, ℕ, ◌+◌, ◌<◌, ◌≤◌, All, IfOk, IfSome, List, length};
-ghost use Rattle.drt_model.specs.Limits.{most_time};
+ghost use Rattle.drt_model.specs.Numbers.{most_time};
 ghost use Rattle.drt_model.specs.Digraph.{Digraph};
 ghost use Rattle.drt_check_trees.specs.Order.{IsOrder};
 ghost use Rattle.drt_claims.specs.Claims.{graphs_of};

@@ -1,6 +1,6 @@
 //! The items of several frontiers, put together side by side.
 ghost use Rattle.std.specs.Prelude.{◌≡◌, ◌≤◌, ◌<◌, ◌++◌, ℕ, true, All, IfOk, IfSome, List, None, Some, length, slice_get, slice_index_or};
-ghost use Rattle.drt_model.specs.Limits.{most_time};
+ghost use Rattle.drt_model.specs.Numbers.{most_time};
 ghost use Rattle.drt_claims.specs.Ranges.{IsCounted};
 ghost use Rattle.drt_claims.specs.declared.evidence.Item.{Item};
 ghost use Rattle.drt_refine.specs.Eager.{IsEager};

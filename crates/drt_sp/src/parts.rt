@@ -1,6 +1,6 @@
 //! The vertices of a task, proved by several workers: each ends combinations of its own.
 ghost use Rattle.std.specs.Prelude.{[], ◌≡◌, ◌≤◌, ◌<◌, ℕ, All, IfOk, IfSome, OnOk, None, length, slice_set};
-ghost use Rattle.drt_model.specs.Limits.{most_time};
+ghost use Rattle.drt_model.specs.Numbers.{most_time};
 ghost use Rattle.drt_model.specs.Digraph.{vertex_count};
 ghost use Rattle.drt_model.specs.Walk.{deadline};
 ghost use Rattle.drt_sp.specs.Attempts.{AreGiven, AreTables, AreWith, CanBeEnded, HaveParts, IsAttempt, IsJob, IsPartOf};

@@ -1,6 +1,6 @@
 //! The proof that a vertex meets its deadline, whatever walks the tasks of higher priority take.
 ghost use Rattle.std.specs.Prelude.{◌≡◌, ℕ, ◌≤◌, ◌<◌, ◌∷◌, [], All, IfOk, IfSome, IsTrue, Some, length, slice_get};
-ghost use Rattle.drt_model.specs.Limits.{most_time};
+ghost use Rattle.drt_model.specs.Numbers.{most_time};
 ghost use Rattle.drt_claims.specs.Ranges.{IsCounted, IsInRangeItem};
 ghost use Rattle.drt_refine.specs.Combination.{Combination};
 ghost use Rattle.drt_refine.specs.Drive.{StopsAt};

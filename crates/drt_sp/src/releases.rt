@@ -1,6 +1,6 @@
 //! The releases of the walks that a tuple of leaves names.
 ghost use Rattle.std.specs.Prelude.{◌≡◌, ◌≤◌, length, All, IfOk};
-ghost use Rattle.drt_model.specs.Limits.{most_time, most_number};
+ghost use Rattle.drt_model.specs.Numbers.{most_time, most_number};
 ghost use Rattle.drt_sp.specs.ChoiceLaws.{leaf_releases};
 ghost use Rattle.drt_claims.specs.Ranges.{IsInRangeRelease};
 ghost use Rattle.drt_sp.specs.Answers.{IsTupleFor};

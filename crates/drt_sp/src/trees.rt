@@ -2,7 +2,7 @@
 ghost use Rattle.std.specs.Prelude.{◌≡◌, ◌+◌, ◌*◌, ◌≤◌, All, IfOk, IfSome, length};
 ghost use Rattle.drt_table.specs.Machine.{search_of};
 ghost use Rattle.drt_effort.specs.Efforts.{most_budget};
-ghost use Rattle.drt_model.specs.Limits.{most_time, most_number};
+ghost use Rattle.drt_model.specs.Numbers.{most_time, most_number};
 ghost use Rattle.drt_request.specs.Request.{request_algebra};
 ghost use Rattle.drt_table.specs.Drive.{StopsAt};
 ghost use Rattle.drt_table.specs.View.{setting_of};

@@ -2,12 +2,13 @@
 ghost use Rattle.std.specs.Prelude.{◌≡◌, ℕ, ◌≤◌, ◌<◌, List, length, IfOk};
 ghost use Rattle.drt_model.specs.declared.tasks.Task.{Task};
 ghost use Rattle.drt_model.specs.Digraph.{vertex_count};
-ghost use Rattle.drt_busy.specs.Choice.{IsWalk, graph_at};
+ghost use Rattle.drt_busy.specs.Choice.{graph_at};
 ghost use Rattle.drt_busy.specs.WalkReleases.{with_job};
 ghost use Rattle.drt_sp.specs.Choices.{chosen};
 ghost use Rattle.drt_claims.specs.Claims.{graphs_of};
 ghost use Rattle.drt_releases.specs.Walks.{walk_at};
 ghost use Rattle.drt_sp.specs.Chosen.{AreLeaves, leaf_for};
+ghost use Rattle.drt_model.specs.Walk.{IsWalk};
 
 use drt_accepted::Accepted;
 use drt_graph::{Graph, Graphs};

@@ -6,7 +6,7 @@ use Rattle.std.proofs.lemmas.List.{get_or-map, get_or_append_left, get_or_push, 
 use Rattle.drt_check_states.specs.Places.{graphs_at}
 use Rattle.drt_graph.specs.Graphs.{graph_of, no_graph}
 use Rattle.drt_model.specs.Digraph.{Digraph}
-use Rattle.drt_busy.specs.Choice.{IsWalk, request_of}
+use Rattle.drt_model.specs.Walk.{IsWalk, request_of}
 use Rattle.drt_states_laws.specs.Laws.{asked_together}
 use Rattle.drt_steps.specs.Time.{AreChosen, IsLeastTime, Passes, sum_at}
 use Rattle.drt_steps.specs.Values.{value_at}

@@ -2,7 +2,7 @@
 use Rattle.std.specs.Prelude.{ℕ, ◌+◌, ◌<◌, ◌≤◌, List}
 use Rattle.std.specs.List.{AllZip}
 use Rattle.drt_model.specs.Digraph.{Digraph}
-use Rattle.drt_busy.specs.Choice.{IsWalk}
+use Rattle.drt_model.specs.Walk.{IsWalk}
 use Rattle.drt_states_laws.specs.Laws.{asked_together}
 
 -- There is one walk of each graph, and no time up to the deadline has room for the job and for what the walks ask for before it.

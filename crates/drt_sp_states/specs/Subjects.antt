@@ -1,7 +1,7 @@
 -- What holds of the subject of a search, and what is said of answers to it.
 use Rattle.std.specs.Prelude.{◌≤◌, length}
 use Rattle.std.specs.List.{All}
-use Rattle.drt_model.specs.Limits.{most_time}
+use Rattle.drt_model.specs.Numbers.{most_time}
 use Rattle.drt_check_states.specs.Crests.{AreCrests}
 use Rattle.drt_check_states.specs.Curves.{HasRisingCurves}
 use Rattle.drt_check_states.specs.Places.{AreTasks, graphs_at}

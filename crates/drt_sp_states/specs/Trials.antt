@@ -2,7 +2,7 @@
 use Rattle.std.specs.Prelude.{◌≡◌, ℕ, ◌≤◌, List, length}
 use Rattle.std.specs.List.{AllZip}
 use Rattle.drt_model.specs.Digraph.{Digraph}
-use Rattle.drt_busy.specs.Choice.{IsWalk}
+use Rattle.drt_model.specs.Walk.{IsWalk}
 use Rattle.drt_states_laws.specs.Laws.{asked_together}
 use Rattle.drt_steps.specs.Time.{AreChosen, sum_at}
 use Rattle.drt_sp_states.specs.declared.trials.Pool.{Pool}

@@ -1,6 +1,6 @@
 //! Whether walks of the tasks of higher priority leave a job time.
 ghost use Rattle.std.specs.Prelude.{◌≤◌, List, [], ◌∷◌, ◌++◌, IfOk, IfSome, length};
-ghost use Rattle.drt_model.specs.Limits.{most_time};
+ghost use Rattle.drt_model.specs.Numbers.{most_time};
 ghost use Rattle.drt_model.specs.Digraph.{Digraph};
 ghost use Rattle.drt_check_states.specs.Places.{AreTasks, graphs_at};
 ghost use Rattle.drt_sp_states.specs.Subjects.{IsStateSubject, IsTrialOf};

@@ -1,6 +1,6 @@
 //! Walks and what they ask for.
 ghost use Rattle.std.specs.Prelude.{◌≡◌, ◌≤◌, IfOk, IfSome, OnOk};
-ghost use Rattle.drt_model.specs.Limits.{most_time};
+ghost use Rattle.drt_model.specs.Numbers.{most_time};
 ghost use Rattle.drt_sp_states.specs.Walks.{IsMadeWalk};
 
 use drt_graph::Graph;

@@ -3,8 +3,7 @@ use Rattle.std.proofs.Common.{◌≡◌, ℕ, suc, ◌+◌, ◌-◌, ◌<◌, �
 use Rattle.std.proofs.lemmas.Bool.{cases_lt, eqb-true}
 use Rattle.drt_model.specs.declared.tasks.Edge.{Edge}
 use Rattle.drt_model.specs.Digraph.{Digraph, IsSoundGraph, edge_of, no_edge, out_edges, vertex_count}
-use Rattle.drt_model.specs.RequestFunction.{request}
-use Rattle.drt_model.specs.Walk.{IsEdge, IsPath, gap, sep_in, wcet}
+use Rattle.drt_model.specs.Walk.{IsEdge, IsPath, gap, sep_in, wcet, request}
 use Rattle.drt_states.specs.declared.claims.Jump.{Jump}
 use Rattle.drt_states.specs.declared.claims.TailClaim.{TailClaim}
 use Rattle.drt_states.specs.Tails.{BoundsWalks, IsCurve, IsTail, curve_of, no_jump, value_before}

@@ -8,9 +8,7 @@ use Rattle.std.proofs.lemmas.List.{length-map}
 use Rattle.std.proofs.lemmas.Option.{get_or_from_slice_get, none-some, same_Some, slice_get-get_or, slice_get-map, slice_get_within}
 use Rattle.drt_model.specs.declared.tasks.Edge.{Edge}
 use Rattle.drt_model.specs.Digraph.{Digraph, IsSoundGraph, edge_of, out_edges, vertex_count}
-use Rattle.drt_model.specs.RequestFunction.{request}
-use Rattle.drt_model.specs.Walk.{wcet}
-use Rattle.drt_busy.specs.Choice.{IsWalk}
+use Rattle.drt_model.specs.Walk.{wcet, request, IsWalk}
 use Rattle.drt_states.specs.declared.claims.StateClaim.{StateClaim}
 use Rattle.drt_states.specs.declared.claims.StateEnd.{StateEnd}
 use Rattle.drt_states.specs.declared.claims.StateEnd.TheVariants.{Passes, Splits}

@@ -2,9 +2,7 @@
 use Rattle.std.proofs.Common.{◌≡◌, ℕ, ◌+◌, ◌-◌, ◌<◌, ◌≤◌, ◌⊎◌, inl, inr, List, [], ◌∷◌, sym, ap, ◌∙◌, subst, arith}
 use Rattle.std.proofs.lemmas.Bool.{cases_lt}
 use Rattle.drt_model.specs.Digraph.{Digraph, IsSoundGraph, edge_of, out_degree, vertex_count}
-use Rattle.drt_model.specs.RequestFunction.{request}
-use Rattle.drt_model.specs.Walk.{gap, wcet}
-use Rattle.drt_busy.specs.Choice.{IsWalk, request_of}
+use Rattle.drt_model.specs.Walk.{gap, wcet, request, IsWalk, request_of}
 use Rattle.drt_states_laws.proofs.Bound.{edge_between, target_within}
 use Rattle.drt_states_laws.proofs.Requests.{request_grows, request_last, request_next, request_none}
 

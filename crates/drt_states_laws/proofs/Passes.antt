@@ -4,7 +4,7 @@ use Rattle.std.specs.Prelude.{Option}
 use Rattle.std.proofs.lemmas.Bool.{cases_lt}
 use Rattle.std.proofs.lemmas.List.Elements.{All-head, All-tail}
 use Rattle.drt_model.specs.Digraph.{Digraph, IsSoundGraph}
-use Rattle.drt_model.specs.RequestFunction.{request}
+use Rattle.drt_model.specs.Walk.{request}
 use Rattle.drt_states.specs.declared.claims.StateEntry.{StateEntry}
 use Rattle.drt_states.specs.declared.claims.TailClaim.{TailClaim}
 use Rattle.drt_states.specs.States.{asked_from, asked_of, entry_at}

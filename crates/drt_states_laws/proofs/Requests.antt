@@ -2,8 +2,7 @@
 use Rattle.std.proofs.Common.{◌≡◌, ℕ, ◌+◌, ◌-◌, ◌<◌, ◌≤◌, ◌⊎◌, inl, inr, Bool, true, false, cond, ltb, List, [], ◌∷◌, refl, sym, ap, ◌∙◌, arith}
 use Rattle.std.proofs.lemmas.Bool.{cases_lt, le-ltb, lt-ltb}
 use Rattle.drt_model.specs.Digraph.{Digraph}
-use Rattle.drt_model.specs.RequestFunction.{request, requested_from}
-use Rattle.drt_model.specs.Walk.{gap, wcet}
+use Rattle.drt_model.specs.Walk.{gap, wcet, request, requested_from}
 
 -- The test whether a release at x + y comes before t is that of one at y before t less x.
 test_shifted : (x y t : ℕ) → ltb (x + y) t ≡ ltb y (t - x)

@@ -2,9 +2,7 @@
 use Rattle.std.specs.Prelude.{ℕ, ◌+◌, ◌<◌, ◌≤◌, List, [], ◌∷◌, All}
 use Rattle.std.specs.List.{AllZip}
 use Rattle.drt_model.specs.Digraph.{Digraph, IsSoundGraph, vertex_count}
-use Rattle.drt_model.specs.RequestFunction.{request}
-use Rattle.drt_model.specs.Walk.{IsPath}
-use Rattle.drt_busy.specs.Choice.{IsWalk, request_of}
+use Rattle.drt_model.specs.Walk.{IsPath, request, IsWalk, request_of}
 use Rattle.drt_states.specs.declared.claims.StateClaim.{StateClaim}
 use Rattle.drt_states.specs.declared.claims.TailClaim.{TailClaim}
 use Rattle.drt_states.specs.States.{AreStates, HaveDominatedChildren, HavePassingTimes}

@@ -1,6 +1,6 @@
 -- What the code keeps of a function: a base, and rises that come after given times.
 use Rattle.std.specs.Prelude.{ℕ, suc, zero, ◌≡◌, ◌+◌, ◌-◌, ◌*◌, ◌/◌, ◌≤◌, ◌<◌, max, nat_lt, nat_le, cond, Some, List, [], ◌∷◌, ◌++◌, length, slice_get, slice_index, slice_index_or}
-use Rattle.drt_model.specs.Limits.{most_time}
+use Rattle.drt_model.specs.Numbers.{most_time}
 use Rattle.drt_steps.specs.declared.jump.Jump.{Jump}
 use Rattle.drt_steps.specs.Values.{value_at}
 

@@ -2,7 +2,7 @@
 ghost use Rattle.std.specs.Prelude.{◌≡◌, ℕ, ◌+◌, ◌≤◌, ◌<◌, true, false, length, replicate, reverse, IfOk};
 ghost use Rattle.std.specs.Ordering.{nat_cmp};
 ghost use Rattle.std.specs.Cmp.Lexicographic.{slice_cmp};
-ghost use Rattle.drt_model.specs.Limits.{most_time};
+ghost use Rattle.drt_model.specs.Numbers.{most_time};
 ghost use Rattle.drt_steps.specs.Values.{raise, value_at, covers, max_of};
 ghost use Rattle.drt_steps.specs.Jumps.{values, AreKept, IsFunctionKept, AreMarks};
 ghost use Rattle.drt_steps.specs.Samples.{samples_of};

@@ -1,6 +1,6 @@
 //! The least time by which a job and the work ahead of it are done.
 ghost use Rattle.std.specs.Prelude.{◌≡◌, ℕ, ◌+◌, ◌*◌, ◌≤◌, length};
-ghost use Rattle.drt_model.specs.Limits.{most_time};
+ghost use Rattle.drt_model.specs.Numbers.{most_time};
 ghost use Rattle.drt_steps.specs.Time.{IsLeastTimeOf, AreChosen, sum_at};
 
 use crate::steps::Steps;

@@ -5,7 +5,7 @@ use Rattle.std.proofs.lemmas.Bool.{le-leb, lt-leb}
 use Rattle.std.proofs.lemmas.List.{length-map, map-append}
 use Rattle.std.proofs.lemmas.Option.{none-some, same_Some, slice_get-map, slice_get_within}
 use Rattle.drt_effort.specs.Efforts.{most_budget}
-use Rattle.drt_model.specs.Limits.{most_time}
+use Rattle.drt_model.specs.Numbers.{most_time}
 use Rattle.drt_label.specs.Algebra.{Algebra, Laws}
 use Rattle.drt_model.specs.Digraph.{Digraph, IsSoundGraph, vertex_of, edge_of, out_degree}
 use Rattle.drt_table.specs.Node.{NodeOf, Held, is_kept, is_node_pending, is_taken, is_taken_state, fresh}

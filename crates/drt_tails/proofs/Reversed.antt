@@ -2,8 +2,7 @@
 use Rattle.std.proofs.Common.{◌≡◌, ℕ, ◌+◌, ◌<◌, true, ltb, List, [], ◌∷◌, ◌++◌, refl, sym, ap, ◌∙◌, subst, arith}
 use Rattle.std.proofs.lemmas.Bool.{lt-ltb}
 use Rattle.drt_model.specs.Digraph.{Digraph}
-use Rattle.drt_model.specs.RequestFunction.{requested_from}
-use Rattle.drt_model.specs.Walk.{IsEdge, IsPath, gap, last_of, span, work}
+use Rattle.drt_model.specs.Walk.{IsEdge, IsPath, gap, last_of, span, work, requested_from}
 use Rattle.drt_graph.proofs.Edges.{gap_of}
 use Rattle.drt_graph.proofs.Paths.{last_both, path_both, span_both, span_cons, span_none, work_both, work_cons, work_none}
 use Rattle.drt_tails.specs.Turned.{IsTurned}

@@ -1,8 +1,7 @@
 -- Tails whose functions are attained by walks.
 use Rattle.std.specs.Prelude.{◌≡◌, ℕ, ◌+◌, ◌<◌, List, All}
 use Rattle.drt_model.specs.Digraph.{Digraph, vertex_count}
-use Rattle.drt_model.specs.Walk.{IsPath, span}
-use Rattle.drt_model.specs.RequestFunction.{request}
+use Rattle.drt_model.specs.Walk.{IsPath, span, request}
 use Rattle.drt_states.specs.declared.claims.Jump.{Jump}
 use Rattle.drt_states.specs.declared.claims.TailClaim.{TailClaim}
 use Rattle.drt_states.specs.Tails.{curve_of}

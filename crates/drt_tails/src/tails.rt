@@ -1,7 +1,7 @@
 //! The tail of a graph.
 ghost use Rattle.std.specs.Prelude.{◌≤◌, IfOk, IfSome};
 ghost use Rattle.drt_effort.specs.Efforts.{most_budget};
-ghost use Rattle.drt_model.specs.Limits.{most_time};
+ghost use Rattle.drt_model.specs.Numbers.{most_time};
 ghost use Rattle.drt_states.specs.Tails.{IsTail, BoundsWalks};
 ghost use Rattle.drt_tails.specs.Attained.{IsAttained};
 

@@ -7,13 +7,14 @@ use Rattle.drt_model.specs.declared.jobs.Policy.{Policy}
 use Rattle.drt_model.specs.declared.jobs.Release.{Release}
 use Rattle.drt_model.specs.declared.tasks.Task.{Task}
 use Rattle.drt_model.specs.Legal.{IsLegal}
-use Rattle.drt_model.specs.Limits.{IsTask, IsTaskSet, IsVertex, most_time}
+use Rattle.drt_model.specs.Limits.{IsTask, IsTaskSet, IsVertex}
 use Rattle.drt_model.specs.Schedulable.{jobs_of}
 use Rattle.drt_model.specs.Trace.{job_at, pick, done, IsFinish, Misses}
 use Rattle.drt_model.proofs.JobLemmas.{job_at-jobs_of, known, length-jobs_of, no_release}
 use Rattle.drt_model.proofs.LegalLemmas.{allowed_if_legal}
 use Rattle.drt_model.proofs.MachineLemmas.{done-le-need, done_mono_le, pick_some}
 use Rattle.drt_busy.proofs.Busy.{is_pick_in, served, served-work, served_run, work, work_of-in}
+use Rattle.drt_model.specs.Numbers.{most_time}
 
 -- the set of all jobs
 abbrev every : ℕ → Bool

@@ -1,6 +1,6 @@
 //! How late a job finishes that misses its deadline.
 ghost use Rattle.std.specs.Prelude.{◌≡◌, ◌+◌, ◌^◌, ◌<◌, ◌≤◌, All, IfOk, length};
-ghost use Rattle.drt_model.specs.Limits.{most_time};
+ghost use Rattle.drt_model.specs.Numbers.{most_time};
 ghost use Rattle.drt_model.specs.Legal.{IsLegal};
 ghost use Rattle.drt_model.specs.Schedulable.{jobs_of};
 ghost use Rattle.drt_model.specs.Trace.{IsFinish, Misses, job_at};

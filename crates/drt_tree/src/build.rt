@@ -1,7 +1,7 @@
 //! One tree over leaves that lie in the forest.
 ghost use Rattle.std.specs.Prelude.{◌≡◌, ℕ, ◌+◌, ◌≤◌, ◌<◌, ◌*◌, ◌++◌, length, map, None, IfOk};
 ghost use Rattle.std.specs.Result.{OnErr, OnOk};
-ghost use Rattle.drt_model.specs.Limits.{most_number};
+ghost use Rattle.drt_model.specs.Numbers.{most_number};
 ghost use Rattle.drt_tree.specs.Tree.{IsForest, Grows, HaveOneBound, children, plain, leaf_node, leaf_steps};
 ghost use Rattle.drt_tree.specs.Shape.{IsTreeAdded, IsBuilt};
 ghost use Rattle.drt_tree.specs.Leaf.{leaves_of};

@@ -1,7 +1,7 @@
 //! The trees of a file.
 ghost use Rattle.std.specs.Prelude.{◌≡◌, ℕ, ◌+◌, ◌*◌, ◌≤◌, ◌<◌, [], length, Some, None, IfOk};
 ghost use Rattle.std.specs.Result.{OnErr};
-ghost use Rattle.drt_model.specs.Limits.{most_number};
+ghost use Rattle.drt_model.specs.Numbers.{most_number};
 ghost use Rattle.drt_steps.specs.Values.{value_at};
 ghost use Rattle.drt_tree.specs.Leaf.{leaves_of};
 ghost use Rattle.drt_tree.specs.Shape.{IsTreeAdded};

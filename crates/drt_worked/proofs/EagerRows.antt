@@ -3,8 +3,7 @@ use Rattle.std.proofs.Common.{◌≡◌, ℕ, zero, suc, ◌<◌, ◌≤◌, Lis
 use Rattle.std.proofs.lemmas.Option.{same_Some}
 use Rattle.drt_model.specs.declared.tasks.Task.{Task}
 use Rattle.drt_model.specs.Digraph.{Digraph, digraph_of}
-use Rattle.drt_model.specs.RequestFunction.{requested_from}
-use Rattle.drt_model.specs.Walk.{sep_in, or_zero}
+use Rattle.drt_model.specs.Walk.{sep_in, or_zero, requested_from}
 use Rattle.drt_claims.specs.Proofs.{HasPassingTime, after_all, opening_stack, tree_sum_at}
 use Rattle.drt_claims.specs.Trees.{by_priority, higher_count, joined, placed, tree_graphs}
 use Rattle.drt_claims.specs.declared.evidence.Item.{Item}

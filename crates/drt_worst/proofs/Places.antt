@@ -2,7 +2,7 @@
 use Rattle.std.proofs.Common.{◌≡◌, ℕ, suc, zero, ◌<◌, ◌≤◌, ◌⊎◌, Some, List, [], ◌∷◌, length, refl, sym, ap, subst, inl, inr, arith, set}
 use Rattle.std.specs.Prelude.{slice_get}
 use Rattle.std.proofs.lemmas.Option.{none-some, same_Some}
-use Rattle.drt_model.specs.Limits.{most_time}
+use Rattle.drt_model.specs.Numbers.{most_time}
 use Rattle.drt_steps.specs.Time.{AreChosen, Passes}
 use Rattle.drt_tree.specs.Tree.{Plain, IsForest, IsPair, node_values_in}
 use Rattle.drt_tree.proofs.Trees.{child_within}

@@ -1,6 +1,6 @@
 -- What a pass is between two turns.
 use Rattle.std.specs.Prelude.{◌≡◌, ℕ, ◌≤◌, ◌⊎◌, List, [], ◌∷◌, length, map, reverse, IfSome}
-use Rattle.drt_model.specs.Limits.{most_time}
+use Rattle.drt_model.specs.Numbers.{most_time}
 use Rattle.atomic_table.specs.Seated.{TableId}
 use Rattle.drt_tree.specs.Tree.{IsForest}
 use Rattle.drt_refine.specs.Below.{AreBelow}

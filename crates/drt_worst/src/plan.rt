@@ -1,7 +1,7 @@
 //! What to do with a combination.
 
 ghost use Rattle.std.specs.Prelude.{◌≡◌, ℕ, ◌<◌, ◌≤◌, length, Some, IfSome, IfOk, slice_set};
-ghost use Rattle.drt_model.specs.Limits.{most_time};
+ghost use Rattle.drt_model.specs.Numbers.{most_time};
 ghost use Rattle.drt_steps.specs.Time.{IsLeastTimeOf};
 ghost use Rattle.drt_refine.specs.Below.{AreNodes, IsConcrete};
 ghost use Rattle.drt_refine.specs.Eager.{IsSplitPlace};

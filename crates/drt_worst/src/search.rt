@@ -2,7 +2,7 @@
 ghost use Rattle.std.specs.Prelude.{◌≡◌, ◌≢◌, ℕ, ◌+◌, ◌-◌, ◌<◌, ◌≤◌, List, [], Some, length, slice_get, false, true, IfOk, IfSome, IfNone, IsSome, option_map, vec_len};
 ghost use Rattle.std.specs.Result.{OnOk};
 ghost use Rattle.drt_lock.specs.Rule.{all_parts};
-ghost use Rattle.drt_model.specs.Limits.{most_time};
+ghost use Rattle.drt_model.specs.Numbers.{most_time};
 ghost use Rattle.drt_tree.specs.Tree.{IsForest};
 ghost use Rattle.drt_refine.specs.Below.{AreBelow, AreNodes};
 ghost use Rattle.drt_worst.specs.Splitting.{AreParts, IsPart};

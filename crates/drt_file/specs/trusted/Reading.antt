@@ -1,5 +1,5 @@
 -- Which texts read as which sets, and the fault of every other.
-use Rattle.std.specs.Prelude.{◌≡◌, ℕ, ◌==◌, if◌then◌else◌, List, [], ◌∷◌, ◌++◌, Option, Some, None, IsTrue, slice_get}
+use Rattle.std.specs.Prelude.{◌≡◌, ℕ, ◌==◌, if◌then◌else◌, List, [], ◌∷◌, ◌++◌, Option, Some, None, IsTrue, slice_get, codes}
 use Rattle.drt_model.specs.declared.tasks.Vertex.{Vertex}
 use Rattle.drt_model.specs.declared.tasks.Edge.{Edge}
 use Rattle.drt_model.specs.declared.tasks.Task.{Task}
@@ -7,7 +7,7 @@ use Rattle.drt_model.specs.Contents.{Contents}
 use Rattle.drt_model.specs.Limits.{IsTaskSet}
 use Rattle.drt_file.specs.declared.fault.FileError.{FileError}
 use Rattle.drt_file.specs.declared.fault.FileError.TheVariants as errors
-use Rattle.drt_file.specs.trusted.Words.{is_number, value, task_word, vertex_word, edge_word, priority_word}
+use Rattle.drt_file.specs.trusted.Words.{is_number, value}
 use Rattle.drt_file.specs.trusted.Canonical.{version_line, end_line}
 use Rattle.drt_file.specs.trusted.Faults.{fault_of}
 use Rattle.drt_file.specs.trusted.Line.{said}
@@ -18,16 +18,16 @@ Means word n = IsTrue (is_number word) × (value word ≡ n)
 
 -- A line says a vertex: `vertex NAME WCET DEADLINE`.
 abbrev pub SaysVertex : List (List ℕ) → Vertex → Type 0
-SaysVertex words v = (wcet : List ℕ) × (deadline : List ℕ) × (words ≡ vertex_word ∷ v.name ∷ wcet ∷ deadline ∷ []) × Means wcet v.wcet × Means deadline v.deadline
+SaysVertex words v = (wcet : List ℕ) × (deadline : List ℕ) × (words ≡ codes "vertex" ∷ v.name ∷ wcet ∷ deadline ∷ []) × Means wcet v.wcet × Means deadline v.deadline
 
 -- A line says an edge between two of these vertices: `edge FROM TO SEPARATION`, the ends by their names.
 abbrev pub SaysEdge : List Vertex → List (List ℕ) → Edge → Type 0
 SaysEdge vs words e = (from : Vertex) × (to : Vertex) × (sep : List ℕ) × (slice_get vs e.from ≡ Some from) × (slice_get vs e.to ≡ Some to)
-    × (words ≡ edge_word ∷ from.name ∷ to.name ∷ sep ∷ []) × Means sep e.sep
+    × (words ≡ codes "edge" ∷ from.name ∷ to.name ∷ sep ∷ []) × Means sep e.sep
 
 -- A line says a priority: `priority N`.
 abbrev pub SaysPriority : List (List ℕ) → ℕ → Type 0
-SaysPriority words n = (number : List ℕ) × (words ≡ priority_word ∷ number ∷ []) × Means number n
+SaysPriority words n = (number : List ℕ) × (words ≡ codes "priority" ∷ number ∷ []) × Means number n
 
 -- The lines of a task below its `task` line say these vertices and these edges, each in this order, and this priority or none: line by
 -- line, the last one last. An edge names vertices that stand above it, and no line follows another with a second priority.
@@ -45,7 +45,7 @@ written_priority version p = if version == 2 then p else None
 
 -- Lines say a task: `task NAME`, and below it its vertices, its edges and in version 2 its priority.
 abbrev pub SaysTask : ℕ → List (List (List ℕ)) → Task → Type 0
-SaysTask version own t = (body : List (List (List ℕ))) × (own ≡ (task_word ∷ t.name ∷ []) ∷ body) × Says body t.vertices t.edges (written_priority version (Some t.priority))
+SaysTask version own t = (body : List (List (List ℕ))) × (own ≡ (codes "task" ∷ t.name ∷ []) ∷ body) × Says body t.vertices t.edges (written_priority version (Some t.priority))
 
 -- Lines say tasks: those of each follow those of the tasks before it.
 pub data SaysTasks (version : ℕ) : List (List (List ℕ)) → List Task → Type 0 where

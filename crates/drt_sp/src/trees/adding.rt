@@ -1,6 +1,6 @@
 //! A tree in the forest, and the same tree as a claim.
 ghost use Rattle.std.specs.Prelude.{◌≡◌, ℕ, ◌+◌, ◌-◌, ◌*◌, ◌≤◌, ◌<◌, IfOk, None, Some, length};
-ghost use Rattle.drt_model.specs.Limits.{most_number};
+ghost use Rattle.drt_model.specs.Numbers.{most_number};
 ghost use Rattle.drt_tree.specs.Leaf.{leaves_of};
 ghost use Rattle.drt_tree.specs.Shape.{IsTreeAdded};
 ghost use Rattle.drt_tree.specs.Tree.{HaveOneBound, IsForest, children};

@@ -1,7 +1,7 @@
 -- What is left decides.
 use Rattle.std.proofs.Common.{drop}
 use Rattle.std.specs.Prelude.{◌↔◌}
-use Rattle.drt_claims.specs.Claims.{Each}
+use Rattle.drt_model.specs.Each.{Each}
 use Rattle.drt_check.specs.Claimed.{KeepsRatioRule}
 use Rattle.drt_check.proofs.claimed.all_keep.Given as goal
 

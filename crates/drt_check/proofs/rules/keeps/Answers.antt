@@ -1,5 +1,5 @@
 use Rattle.std.proofs.Common.{ap, subst, arith}
-use Rattle.drt_claims.specs.Claims.{graphs_of, Each}
+use Rattle.drt_claims.specs.Claims.{graphs_of}
 use Rattle.drt_claims.specs.Fronts.{HasOpenings, IsClosedFront}
 use Rattle.drt_claims.specs.Kinds.{fronts_of, ratios_of}
 use Rattle.drt_claims.specs.Statement.{Statement}
@@ -9,6 +9,7 @@ use Rattle.drt_claims.specs.declared.rule.Rule.TheVariants.{TreePerHigherTask, S
 use Rattle.drt_check.specs.Deciding.{IsNextRule}
 use Rattle.drt_check.proofs.Rows.{counted, decides, decides_at, decides_order, given, in_order, near}
 use Rattle.drt_check.proofs.rules.keeps.Goals as goal
+use Rattle.drt_model.specs.Each.{Each}
 
 pub all_keep-requires-clause-counted : goal.all_keep-requires-clause-counted
 all_keep-requires-clause-counted c =

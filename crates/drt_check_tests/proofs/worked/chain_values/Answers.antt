@@ -1,6 +1,5 @@
 use Rattle.std.proofs.Common.{refl}
-use Rattle.drt_model.specs.RequestFunction.{requested_from}
-use Rattle.drt_model.specs.Walk.{or_zero, sep_in}
+use Rattle.drt_model.specs.Walk.{or_zero, sep_in, requested_from}
 use Rattle.drt_claims.specs.Trees.{joined}
 use Rattle.drt_check_tests.proofs.worked.chain_values.Goals as goal
 

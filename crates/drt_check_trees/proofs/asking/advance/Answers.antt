@@ -1,5 +1,5 @@
 use Rattle.std.proofs.Common.{◌≡◌, ℕ, ◌+◌, ◌<◌, ◌≤◌, ap, arith, drop, get_or, length}
-use Rattle.drt_model.specs.Limits.{most_time}
+use Rattle.drt_model.specs.Numbers.{most_time}
 use Rattle.drt_model.specs.declared.tasks.Vertex.{Vertex}
 use Rattle.drt_model.specs.Walk.{wcet}
 use Rattle.drt_check_trees.specs.Asking.{asked_by_rest}

@@ -1,8 +1,7 @@
 -- The sums so far and those of the vertices that are left are those of all.
 use Rattle.std.proofs.Common.{◌≡◌, ◌+◌, ◌*◌, ◌≤◌, drop}
-use Rattle.drt_model.specs.Limits.{most_time}
-use Rattle.drt_model.specs.Walk.{work}
-use Rattle.drt_check_trees.specs.Asking.{span_of}
+use Rattle.drt_model.specs.Numbers.{most_time}
+use Rattle.drt_model.specs.Walk.{work, span_of}
 use Rattle.drt_check_trees.proofs.asking.measure.Given as goal
 
 abbrev pub invariant-loop-i : goal.invariant-loop-i

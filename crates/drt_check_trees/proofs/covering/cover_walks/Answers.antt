@@ -1,5 +1,5 @@
 use Rattle.std.proofs.Common.{◌≡◌, ℕ, true, false, refl, subst, sym}
-use Rattle.drt_claims.specs.Claims.{Each}
+use Rattle.drt_model.specs.Each.{Each}
 use Rattle.drt_claims.specs.Trees.{CoversWalks, HasShortWalks, tree_graphs}
 use Rattle.drt_check_trees.proofs.Eachs.{each_end, each_here, each_more, each_not}
 use Rattle.drt_check_trees.proofs.Orders.{graphs_long}

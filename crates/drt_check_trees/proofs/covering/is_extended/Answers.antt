@@ -1,11 +1,10 @@
 use Rattle.std.proofs.Common.{◌≡◌, ℕ, ◌+◌, ◌<◌, ◌≤◌, ◌++◌, ◌∷◌, [], List, ap, arith, refl, subst, sym, ◌∙◌}
 use Rattle.std.specs.Prelude.{Any}
 use Rattle.drt_model.specs.Digraph.{edge_of}
-use Rattle.drt_model.specs.Walk.{wcet, work}
+use Rattle.drt_model.specs.Walk.{wcet, work, span_of}
 use Rattle.drt_model.specs.declared.tasks.Edge.{Edge}
 use Rattle.drt_model.specs.declared.tasks.Vertex.{Vertex}
 use Rattle.drt_claims.specs.Trees.{IsShortWalk}
-use Rattle.drt_check_trees.specs.Asking.{span_of}
 use Rattle.drt_check_trees.specs.Entries.{IsWalkOver, last_in}
 use Rattle.drt_check_trees.proofs.Extending.{extended_far, extended_near, short_longer, span_longer, work_longer}
 use Rattle.drt_check_trees.proofs.Dominators.{short_small}

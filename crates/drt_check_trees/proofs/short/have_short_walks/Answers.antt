@@ -1,5 +1,5 @@
 use Rattle.std.proofs.Common.{◌≡◌, ℕ, true, refl, subst, sym}
-use Rattle.drt_claims.specs.Claims.{Each}
+use Rattle.drt_model.specs.Each.{Each}
 use Rattle.drt_claims.specs.Trees.{HasShortWalks, tree_graphs}
 use Rattle.drt_check_trees.proofs.Eachs.{each_end, each_more, each_not}
 use Rattle.drt_check_trees.proofs.Orders.{graphs_long}

@@ -5,13 +5,14 @@ use Rattle.std.proofs.lemmas.Result.{IfOk-weaker}
 use Rattle.drt_model.specs.declared.tasks.Task.{Task}
 use Rattle.drt_model.specs.Digraph.{IsSoundGraph, vertex_count}
 use Rattle.drt_graph.specs.Graphs.{graph_of}
-use Rattle.drt_busy.specs.Choice.{IsWalk, graph_at, no_task, task_at}
+use Rattle.drt_busy.specs.Choice.{graph_at, no_task, task_at}
 use Rattle.drt_releases.proofs.Walks.{graph_same}
 use Rattle.drt_busy.specs.Response.{cut}
 use Rattle.drt_fixed.specs.Searching.{IsBeside, graphs_given}
 use Rattle.drt_fixed.proofs.Beside.{beside_higher, beside_none, beside_own}
 use Rattle.drt_fixed.proofs.releases.job_walk.Goals.{then-k-at+in_ok-push, else-k-at}
 use Rattle.drt_fixed.proofs.releases.job_walk.Goals as goal
+use Rattle.drt_model.specs.Walk.{IsWalk}
 
 pub cut_walk-requires : goal.cut_walk-requires
 cut_walk-requires c = record {

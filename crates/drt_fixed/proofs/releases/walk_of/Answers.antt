@@ -1,6 +1,6 @@
 use Rattle.std.proofs.Common.{ℕ, get_or, subst, sym}
 use Rattle.drt_graph.specs.Graphs.{graph_of}
-use Rattle.drt_busy.specs.Choice.{IsWalk}
+use Rattle.drt_model.specs.Walk.{IsWalk}
 use Rattle.drt_fixed.proofs.Beside.{walk_there}
 use Rattle.drt_fixed.proofs.releases.walk_of.Goals as goal
 

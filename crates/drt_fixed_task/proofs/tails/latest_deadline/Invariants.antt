@@ -1,6 +1,6 @@
 -- The greatest deadline so far.
 use Rattle.std.proofs.Common.{ℕ, ◌<◌, ◌≤◌}
-use Rattle.drt_model.specs.Limits.{most_time}
+use Rattle.drt_model.specs.Numbers.{most_time}
 use Rattle.drt_model.specs.Walk.{deadline}
 use Rattle.drt_fixed_task.proofs.tails.latest_deadline.Given as goal
 

@@ -1,6 +1,6 @@
 -- What is summed and the sums of the rest are the whole.
 use Rattle.std.proofs.Common.{◌*◌, ◌≤◌}
-use Rattle.drt_model.specs.Limits.{most_time}
+use Rattle.drt_model.specs.Numbers.{most_time}
 use Rattle.drt_graph.proofs.Rests.{IsSummed}
 use Rattle.drt_graph.proofs.cycles.cycle_sums.Given as goal
 

@@ -1,5 +1,5 @@
 use Rattle.std.proofs.Common.{◌≤◌, ◌+◌, arith}
-use Rattle.drt_model.specs.Limits.{most_time}
+use Rattle.drt_model.specs.Numbers.{most_time}
 use Rattle.drt_margin.specs.Margin.{wcet_at}
 use Rattle.drt_margin.proofs.Rooms.{asked_subject, least_reached}
 use Rattle.drt_margin.proofs.Verdicts.{yes_within}

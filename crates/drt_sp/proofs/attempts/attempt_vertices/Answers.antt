@@ -1,6 +1,6 @@
 -- One more attempt.
 use Rattle.std.proofs.Common.{◌<◌, ◌≤◌, ◌+◌, List, Option, sym, ap, subst, arith}
-use Rattle.drt_model.specs.Limits.{most_time}
+use Rattle.drt_model.specs.Numbers.{most_time}
 use Rattle.drt_model.specs.Digraph.{vertex_count}
 use Rattle.drt_model.specs.declared.tasks.Vertex.{Vertex}
 use Rattle.drt_sp.specs.Attempts.{IsAttempt}

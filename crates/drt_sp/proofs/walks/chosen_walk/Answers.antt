@@ -2,13 +2,14 @@ use Rattle.std.proofs.Common.{◌≡◌, ◌<◌, None, List, ℕ, length, get_o
 use Rattle.std.proofs.lemmas.List.{length-map}
 use Rattle.drt_model.specs.Digraph.{digraph_of}
 use Rattle.drt_graph.specs.Graphs.{graph_of}
-use Rattle.drt_busy.specs.Choice.{IsWalk, graph_at}
+use Rattle.drt_busy.specs.Choice.{graph_at}
 use Rattle.drt_releases.proofs.Walks.{graph_same}
 use Rattle.drt_tree.specs.Tree.{children, walk}
 use Rattle.drt_tree.proofs.Trees.{if_ok_more}
 use Rattle.drt_busy.specs.Response.{cut}
 use Rattle.drt_sp.proofs.Chosen.{chosen_none, chosen_some, leaf_place}
 use Rattle.drt_sp.proofs.walks.chosen_walk.Goals as goal
+use Rattle.drt_model.specs.Walk.{IsWalk}
 
 pub walk-requires-clause-within : goal.walk-requires-clause-within
 walk-requires-clause-within c =

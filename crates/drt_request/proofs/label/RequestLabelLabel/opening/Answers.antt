@@ -1,6 +1,6 @@
 use Rattle.std.proofs.Common.{ℕ, ◌≤◌, List, length, ◌≡◌, sym, ◌∙◌, subst, arith}
 use Rattle.std.proofs.lemmas.Bool.Decides.{nat_tests}
-use Rattle.drt_model.specs.Limits.{most_time}
+use Rattle.drt_model.specs.Numbers.{most_time}
 use Rattle.drt_request.specs.Request.{AreValuesWithinLimits}
 use Rattle.drt_steps.specs.Values.{value_at}
 use Rattle.drt_request.proofs.Limits.{opening_limits}
