@@ -9,7 +9,7 @@ use Rattle.std.proofs.lemmas.List.Sums.{sum_by-cons}
 use Rattle.std.proofs.lemmas.Option.{none-some, same_Some, slice_get_within}
 use Rattle.drt_model.specs.Digraph.{Digraph}
 use Rattle.drt_claims.specs.Proofs.{node_parts, parts_of}
-use Rattle.drt_claims.specs.Trees.{IsTree, asked, joined, named, node_values, root}
+use Rattle.drt_claims.specs.Trees.{IsTree, joined, named, node_values, root}
 use Rattle.drt_claims.specs.declared.evidence.Pair.{Pair}
 use Rattle.drt_claims.specs.declared.evidence.TreeClaim.{TreeClaim}
 use Rattle.drt_model.specs.Walk.{request_of}

@@ -27,7 +27,7 @@ use Rattle.drt_busy.specs.Response.{cut_from}
 use Rattle.drt_sp.proofs.Cuts.{cut_asks}
 use Rattle.drt_claims.specs.Proofs.{node_parts}
 use Rattle.drt_claims.specs.Ranges.{IsInRangePair, IsInRangeTree, IsInRangeWalk}
-use Rattle.drt_claims.specs.Trees.{HasShortWalks, IsAbove, IsClosedWalk, IsExtendedWalk, IsShortWalk, IsTree, asked, node_values, root}
+use Rattle.drt_claims.specs.Trees.{HasShortWalks, IsAbove, IsClosedWalk, IsExtendedWalk, IsShortWalk, IsTree, node_values, root}
 use Rattle.drt_claims.specs.declared.evidence.Pair.{Pair}
 use Rattle.drt_claims.specs.declared.evidence.TreeClaim.{TreeClaim}
 use Rattle.drt_sp.specs.TaskTrees.{AreWalkLeaves, IsTaskTree, IsWalkLeaf, pair_of, pairs_from, walks_from}

@@ -8,7 +8,7 @@ use Rattle.drt_model.specs.Digraph.{Digraph}
 use Rattle.drt_steps.specs.Values.{value_at}
 use Rattle.drt_tree.specs.Shape.{Shape, one, two, parts, pairs, root_of, IsHalvedShape}
 use Rattle.drt_tree.specs.declared.leaf.Leaf.{Leaf}
-use Rattle.drt_claims.specs.Trees.{asked, root}
+use Rattle.drt_claims.specs.Trees.{root}
 use Rattle.drt_claims.specs.declared.evidence.Pair.{Pair}
 use Rattle.drt_sp.specs.TaskTrees.{IsWalkLeaf}
 use Rattle.drt_sp.specs.Written.{HasHalves, AreHalvedPairs, leaf_of, pair, walk}

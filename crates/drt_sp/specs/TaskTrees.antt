@@ -8,7 +8,7 @@ use Rattle.drt_tree.specs.Tree.{Plain, Grows, children, leaves, walk}
 use Rattle.drt_tree.specs.declared.leaf.Leaf.{Leaf}
 use Rattle.drt_sp.specs.Choices.{StandsFor}
 use Rattle.drt_claims.specs.Ranges.{IsInRangeTree}
-use Rattle.drt_claims.specs.Trees.{IsAbove, IsShortWalk, asked}
+use Rattle.drt_claims.specs.Trees.{IsAbove, IsShortWalk}
 use Rattle.drt_claims.specs.declared.evidence.Pair.{Pair}
 use Rattle.drt_sp.specs.TreeClaims.{HaveOneLabel, IsClaimOf, IsNonDominatedWalk, IsSpentWalkSearch, IsTreeOf}
 use Rattle.drt_sp.specs.declared.trees.TaskTree.{TaskTree}
