@@ -1,12 +1,16 @@
 -- What accepted evidence keeps, as the record of its kind.
-use Rattle.std.proofs.Common.{◌≡◌, ℕ, List, sym, ap, ◌∙◌, subst}
+use Rattle.std.proofs.Common.{◌≡◌, ℕ, List, All, sym, ap, ◌∙◌, subst}
 use Rattle.drt_model.specs.Contents.{Contents}
 use Rattle.drt_model.specs.Digraph.{Digraph}
 use Rattle.drt_graph.specs.Horizon.{horizon}
 use Rattle.drt_model.specs.declared.jobs.Policy.{Policy}
 use Rattle.drt_claims.specs.Claims.{graphs_of, fractions, potentials, IsHorizon}
 use Rattle.drt_claims.specs.Fronts.{HasOpenings, IsClosedFront, IsOrdered}
+use Rattle.drt_claims.specs.Proofs.{HasPassingTimes}
 use Rattle.drt_claims.specs.Rules.{Accepts}
+use Rattle.drt_claims.specs.Searches.{HasDominatedChildren, HasStatesOver, places_of}
+use Rattle.drt_claims.specs.Sorting.{by_priority}
+use Rattle.drt_claims.specs.Trees.{CoversWalks, HasShortWalks, greatest_deadline, tree_graphs}
 use Rattle.drt_claims.specs.declared.evidence.Evidence.TheVariants.{EdfYes, FixedStates, FixedYes, UtilisationOne}
 use Rattle.drt_graph.specs.declared.front.FrontEntry.{FrontEntry}
 use Rattle.drt_claims.specs.declared.evidence.ProofClaim.{ProofClaim}
@@ -17,7 +21,9 @@ use Rattle.drt_claims.specs.declared.rule.Rule.TheVariants.{FineScale, ClaimedUt
 use Rattle.drt_claims.specs.declared.rule.Rule.TheVariants.{TreePerHigherTask, ShortWalks, CoveredWalks, TreeShapes, ProofPerVertex, ProofShapes, PassingTimes}
 use Rattle.drt_claims.specs.declared.rule.Rule.TheVariants.{RisingTails, BoundingTails, SearchPerVertex, SearchStates, PassingStates, DominatedChildren}
 use Rattle.drt_claims.proofs.Accepting.{IsEdfYes, IsFixedStates, IsFixedYes, IsUtilisationOne, statement}
+use Rattle.drt_claims.proofs.Sorting.{holds_sorted}
 use Rattle.drt_graph.proofs.Scales.{scale_same}
+use Rattle.drt_states.specs.Tails.{BoundsWalks, EachTail, IsTail}
 use Rattle.drt_states.specs.declared.claims.SearchClaim.{SearchClaim}
 use Rattle.drt_states.specs.declared.claims.TailClaim.{TailClaim}
 use Rattle.drt_model.specs.Each.{Each}
@@ -77,27 +83,27 @@ one_kept policy set ratios is = record {
 
 -- A yes of fixed priorities.
 pub fixed_kept : (policy : Policy) (set : Contents) (trees : List TreeClaim) (proofs : List ProofClaim)
-    → Accepts (statement policy set (FixedYes trees proofs)) → IsFixedYes set.tasks trees proofs
+    → Accepts (statement policy set (FixedYes trees proofs)) → IsFixedYes set.tasks (by_priority set.tasks) trees proofs
 fixed_kept policy set trees proofs is = record {
   trees_are = record {
     per_task = is.keeps TreePerHigherTask tt;
-    short = is.keeps ShortWalks tt;
-    covers = is.keeps CoveredWalks tt;
+    short = holds_sorted (λ ts. Each (HasShortWalks (greatest_deadline set.tasks)) (tree_graphs ts trees) trees) set.tasks (is.keeps ShortWalks tt);
+    covers = holds_sorted (λ ts. Each (CoversWalks (greatest_deadline set.tasks)) (tree_graphs ts trees) trees) set.tasks (is.keeps CoveredWalks tt);
     shapes = is.keeps TreeShapes tt;
   };
   per_vertex = is.keeps ProofPerVertex tt;
   shapes = is.keeps ProofShapes tt;
-  times = is.keeps PassingTimes tt;
+  times = holds_sorted (λ ts. All (HasPassingTimes set.tasks (tree_graphs ts trees) trees) proofs) set.tasks (is.keeps PassingTimes tt);
 }
 
 -- A yes of fixed priorities by tails and states.
 pub states_kept : (policy : Policy) (set : Contents) (tails : List TailClaim) (searches : List SearchClaim)
-    → Accepts (statement policy set (FixedStates tails searches)) → IsFixedStates set.tasks tails searches
+    → Accepts (statement policy set (FixedStates tails searches)) → IsFixedStates set.tasks (by_priority set.tasks) tails searches
 states_kept policy set tails searches is = record {
-  rising = is.keeps RisingTails tt;
-  bounding = is.keeps BoundingTails tt;
+  rising = holds_sorted (λ ts. EachTail IsTail (places_of set.tasks ts) tails) set.tasks (is.keeps RisingTails tt);
+  bounding = holds_sorted (λ ts. EachTail BoundsWalks (places_of set.tasks ts) tails) set.tasks (is.keeps BoundingTails tt);
   per_vertex = is.keeps SearchPerVertex tt;
-  states = is.keeps SearchStates tt;
+  states = holds_sorted (λ ts. All (HasStatesOver set.tasks ts) searches) set.tasks (is.keeps SearchStates tt);
   passing = is.keeps PassingStates tt;
-  children = is.keeps DominatedChildren tt;
+  children = holds_sorted (λ ts. All (HasDominatedChildren set.tasks ts) searches) set.tasks (is.keeps DominatedChildren tt);
 }

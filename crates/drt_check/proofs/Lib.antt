@@ -19,5 +19,6 @@ mod Lists
 mod Naming
 mod Accepted
 mod Rows
+mod Sorted
 mod Table
 mod Plain

@@ -12,7 +12,8 @@ use Rattle.drt_busy.specs.Choice.{AreWalks, graph_at, no_task, task_at}
 use Rattle.drt_busy.specs.Decide.{TimesDecide}
 use Rattle.drt_model.specs.Each.{Each}
 use Rattle.drt_claims.specs.Proofs.{HasPassingTime, after_all, opening_stack, passes}
-use Rattle.drt_claims.specs.Trees.{CoversWalks, greatest_deadline, higher_count, root, tree_graphs}
+use Rattle.drt_claims.specs.Trees.{CoversWalks, greatest_deadline, higher_count, root}
+use Rattle.drt_claims.specs.Sorting.{by_priority, sorted_graphs}
 use Rattle.drt_claims.specs.declared.evidence.ProofClaim.{ProofClaim}
 use Rattle.drt_claims.specs.declared.evidence.TreeClaim.{TreeClaim}
 use Rattle.drt_claims.proofs.Accepting.{IsFixedYes}
@@ -30,7 +31,7 @@ start tasks trees k = opening_stack trees (higher_count tasks (task_at tasks k).
 
 -- The time passes for the vertex and the combination.
 abbrev Passes : List Task → List TreeClaim → ℕ → ℕ → List ℕ × ℕ → Type 0
-Passes tasks trees k v at = HasPassingTime (tree_graphs tasks trees) trees (graph_at tasks k) v at
+Passes tasks trees k v at = HasPassingTime (sorted_graphs tasks trees) trees (graph_at tasks k) v at
 
 -- The items of the vertex's proof end what it begins with, and pass at times that pass.
 record IsProved (tasks : List Task) (trees : List TreeClaim) (k v : ℕ) : Type 0 where
@@ -38,7 +39,7 @@ record IsProved (tasks : List Task) (trees : List TreeClaim) (k v : ℕ) : Type 
   pub ends : after_all trees proof.items (Some (start tasks trees k)) ≡ Some []
   pub passed : All (Passes tasks trees k v) (passes trees proof.items (Some (start tasks trees k)))
 
-is_proved : (tasks : List Task) (trees : List TreeClaim) (proofs : List ProofClaim) → IsFixedYes tasks trees proofs
+is_proved : (tasks : List Task) (trees : List TreeClaim) (proofs : List ProofClaim) → IsFixedYes tasks (by_priority tasks) trees proofs
     → (k v : ℕ) → k < length tasks → v < vertex_count (graph_at tasks k) → IsProved tasks trees k v
 is_proved tasks trees proofs is k v l m =
     let has = claim_of (λ (p : ProofClaim). (p.task, p.vertex)) tasks proofs no_proof is.per_vertex k v l m in
@@ -54,7 +55,7 @@ is_proved tasks trees proofs is k v l m =
     }
 
 -- Whatever the walks, there is such a time: their leaves are below the roots, so that an item passes for them.
-has_time : (tasks : List Task) (trees : List TreeClaim) (proofs : List ProofClaim) → IsFixedYes tasks trees proofs
+has_time : (tasks : List Task) (trees : List TreeClaim) (proofs : List ProofClaim) → IsFixedYes tasks (by_priority tasks) trees proofs
     → (k v : ℕ) → k < length tasks → v < vertex_count (graph_at tasks k) → (walks : ℕ → List ℕ) → AreWalks tasks walks → HasTime tasks walks k v
 has_time tasks trees proofs is k v l m walks are =
     let p : ℕ = (task_at tasks k).priority in
@@ -62,7 +63,7 @@ has_time tasks trees proofs is k v l m walks are =
     let bound : ℕ = greatest_deadline tasks in
     let xs : List Walked = ordered (walked tasks walks) in
     let graphs : List Digraph = take (length trees) (map digraph_of (tasks_of xs)) in
-    let same : graphs ≡ tree_graphs tasks trees = ap (λ ts. take (length trees) (map digraph_of ts)) (ordered_tasks tasks walks) in
+    let same : graphs ≡ sorted_graphs tasks trees = ap (λ ts. take (length trees) (map digraph_of ts)) (ordered_tasks tasks walks) in
     let below = higher_below tasks p k l (omega arith) in
     let per_task = is.trees_are.per_task in
     let covers = subst (λ gs. Each (CoversWalks bound) gs trees) (sym same) is.trees_are.covers in
@@ -77,11 +78,11 @@ has_time tasks trees proofs is k v l m walks are =
     let asked = requests_first tasks walks p t in
     let near = deadline_near tasks k v l m in
     let first = have.most t some (omega (arith, within, near)) in
-    let moved : leaves_at graphs trees have.leaves t ≡ leaves_at (tree_graphs tasks trees) trees have.leaves t = ap (λ gs. leaves_at gs trees have.leaves t) same in
-    let most = leaves_most (tree_graphs tasks trees) trees is.trees_are.shapes have.leaves found.0.0 found.2 t in
+    let moved : leaves_at graphs trees have.leaves t ≡ leaves_at (sorted_graphs tasks trees) trees have.leaves t = ap (λ gs. leaves_at gs trees have.leaves t) same in
+    let most = leaves_most (sorted_graphs tasks trees) trees is.trees_are.shapes have.leaves found.0.0 found.2 t in
     (t, some, within, omega (arith, fits, asked, first, moved, most))
 
 -- Claimed trees and proofs that keep the rules imply schedulability under fixed priorities.
 pub fixed_is_sound : TimesDecide → (version : ℕ) (tasks : List Task) → IsTaskSet version tasks → AreConstrained tasks
-    → (trees : List TreeClaim) (proofs : List ProofClaim) → IsFixedYes tasks trees proofs → Schedulable tasks Fixed
+    → (trees : List TreeClaim) (proofs : List ProofClaim) → IsFixedYes tasks (by_priority tasks) trees proofs → Schedulable tasks Fixed
 fixed_is_sound decide version tasks limits constrained trees proofs is = (decide version tasks limits constrained).1 (has_time tasks trees proofs is)

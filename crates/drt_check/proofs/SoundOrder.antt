@@ -8,7 +8,8 @@ use Rattle.std.proofs.lemmas.List.Sums.{sum_by-cons}
 use Rattle.drt_model.specs.declared.tasks.Task.{Task}
 use Rattle.drt_model.specs.Digraph.{digraph_of}
 use Rattle.drt_busy.specs.Choice.{AreWalks, requests, task_at}
-use Rattle.drt_claims.specs.Trees.{by_priority, higher_count, placed}
+use Rattle.drt_claims.specs.Trees.{higher_count}
+use Rattle.drt_claims.specs.Sorting.{by_priority, placed}
 use Rattle.drt_model.specs.Walk.{IsWalk, request_of}
 
 -- A task with a walk.

@@ -19,7 +19,8 @@ use Rattle.drt_states.specs.declared.claims.TailClaim.{TailClaim}
 use Rattle.drt_states.specs.States.{AreStates, HaveDominatedChildren, HavePassingTimes}
 use Rattle.drt_states.specs.Tails.{BoundsWalks, EachTail, IsTail, Place, graphs_of_places}
 use Rattle.drt_states_laws.specs.Laws.{AreWalksOf, StatesPass, asked_together}
-use Rattle.drt_claims.specs.Searches.{higher_places, higher_tails, place_of, places_of}
+use Rattle.drt_claims.specs.Searches.{higher_tails, place_of}
+use Rattle.drt_claims.specs.Sorting.{by_priority, sorted_higher_places, sorted_places}
 use Rattle.drt_claims.specs.Trees.{higher_count}
 use Rattle.drt_claims.proofs.Accepting.{IsFixedStates}
 use Rattle.drt_check.proofs.SoundOrder.{AreWalked, Walked, asks, higher_below, higher_first, ordered, ordered_all, ordered_tasks, ordered_walked}
@@ -67,7 +68,7 @@ abbrev higher : List Task → (ℕ → List ℕ) → ℕ → List Walked
 higher tasks walks k = take (higher_count tasks (task_at tasks k).priority) (ordered (walked tasks walks))
 
 -- The places of these tasks.
-higher_are : (tasks : List Task) (walks : ℕ → List ℕ) (k : ℕ) → k < length tasks → higher_places tasks (task_at tasks k) ≡ places_in tasks (higher tasks walks k)
+higher_are : (tasks : List Task) (walks : ℕ → List ℕ) (k : ℕ) → k < length tasks → sorted_higher_places tasks (task_at tasks k) ≡ places_in tasks (higher tasks walks k)
 higher_are tasks walks k l =
     let n : ℕ = higher_count tasks (task_at tasks k).priority in
     let below = higher_below tasks (task_at tasks k).priority k l (omega arith) in
@@ -102,11 +103,11 @@ no_search = record { task = 0; vertex = 0; states = [] }
 -- A search of the vertex has states that keep their rules.
 record IsSearched (tasks : List Task) (tails : List TailClaim) (k v : ℕ) : Type 0 where
   pub search : SearchClaim
-  pub states : AreStates (graphs_of_places (higher_places tasks (task_at tasks k))) search.states
+  pub states : AreStates (graphs_of_places (sorted_higher_places tasks (task_at tasks k))) search.states
   pub passing : HavePassingTimes (deadline (graph_at tasks k) v) (wcet (graph_at tasks k) v) (higher_tails tasks tails (task_at tasks k)) search.states
-  pub children : HaveDominatedChildren (graphs_of_places (higher_places tasks (task_at tasks k))) (deadline (graph_at tasks k) v) search.states
+  pub children : HaveDominatedChildren (graphs_of_places (sorted_higher_places tasks (task_at tasks k))) (deadline (graph_at tasks k) v) search.states
 
-is_searched : (tasks : List Task) (tails : List TailClaim) (searches : List SearchClaim) → IsFixedStates tasks tails searches
+is_searched : (tasks : List Task) (tails : List TailClaim) (searches : List SearchClaim) → IsFixedStates tasks (by_priority tasks) tails searches
     → (k v : ℕ) → k < length tasks → v < vertex_count (graph_at tasks k) → IsSearched tasks tails k v
 is_searched tasks tails searches is k v l m =
     let task : Task = task_at tasks k in
@@ -121,12 +122,12 @@ is_searched tasks tails searches is k v l m =
       search = search;
       states = is.states has.place no_search has.here task at;
       passing = subst (λ u. HavePassingTimes (deadline (graph_at tasks k) u) (wcet (graph_at tasks k) u) (higher_tails tasks tails task) search.states) vertex_is passing;
-      children = subst (λ u. HaveDominatedChildren (graphs_of_places (higher_places tasks task)) (deadline (graph_at tasks k) u) search.states) vertex_is children;
+      children = subst (λ u. HaveDominatedChildren (graphs_of_places (sorted_higher_places tasks task)) (deadline (graph_at tasks k) u) search.states) vertex_is children;
     }
 
 -- Whatever the walks, there is a time for the vertex: the one at which its states pass for those of the tasks of higher priority.
 has_time : StatesPass → (version : ℕ) (tasks : List Task) → IsTaskSet version tasks
-    → (tails : List TailClaim) (searches : List SearchClaim) → IsFixedStates tasks tails searches
+    → (tails : List TailClaim) (searches : List SearchClaim) → IsFixedStates tasks (by_priority tasks) tails searches
     → (k v : ℕ) → k < length tasks → v < vertex_count (graph_at tasks k) → (walks : ℕ → List ℕ) → AreWalks tasks walks → HasTime tasks walks k v
 has_time pass version tasks limits tails searches is k v l m walks are =
     let p : ℕ = (task_at tasks k).priority in
@@ -135,8 +136,8 @@ has_time pass version tasks limits tails searches is k v l m walks are =
     let first : List Walked = higher tasks walks k in
     let due : ℕ = deadline (graph_at tasks k) v in
     let same = higher_are tasks walks k l in
-    let rising = subst (λ ps. EachTail IsTail ps (take n tails)) same (zip_take (λ (q : Place) tail. IsTail q.bound q.graph tail) n (places_of tasks) tails is.rising) in
-    let bounding = subst (λ ps. EachTail BoundsWalks ps (take n tails)) same (zip_take (λ (q : Place) tail. BoundsWalks q.bound q.graph tail) n (places_of tasks) tails is.bounding) in
+    let rising = subst (λ ps. EachTail IsTail ps (take n tails)) same (zip_take (λ (q : Place) tail. IsTail q.bound q.graph tail) n (sorted_places tasks) tails is.rising) in
+    let bounding = subst (λ ps. EachTail BoundsWalks ps (take n tails)) same (zip_take (λ (q : Place) tail. BoundsWalks q.bound q.graph tail) n (sorted_places tasks) tails is.bounding) in
     let searched = is_searched tasks tails searches is k v l m in
     let states = subst (λ ps. AreStates (graphs_of_places ps) searched.search.states) same searched.states in
     let children = subst (λ ps. HaveDominatedChildren (graphs_of_places ps) due searched.search.states) same searched.children in
@@ -151,5 +152,5 @@ has_time pass version tasks limits tails searches is k v l m walks are =
 
 -- Claimed tails and searches that keep the rules imply schedulability under fixed priorities.
 pub states_are_sound : TimesDecide → StatesPass → (version : ℕ) (tasks : List Task) → IsTaskSet version tasks → AreConstrained tasks
-    → (tails : List TailClaim) (searches : List SearchClaim) → IsFixedStates tasks tails searches → Schedulable tasks Fixed
+    → (tails : List TailClaim) (searches : List SearchClaim) → IsFixedStates tasks (by_priority tasks) tails searches → Schedulable tasks Fixed
 states_are_sound decide pass version tasks limits constrained tails searches is = (decide version tasks limits constrained).1 (has_time pass version tasks limits tails searches is)

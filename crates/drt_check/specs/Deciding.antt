@@ -1,5 +1,5 @@
 -- What is found of a statement, rule by rule.
-use Rattle.std.specs.Prelude.{◌≡◌, ℕ, ◌<◌, ◌≤◌, IfSome, List, Option, Some, None, length}
+use Rattle.std.specs.Prelude.{◌≡◌, ◌≢◌, ℕ, ◌<◌, ◌≤◌, AllPairs, IfSome, List, Option, Some, None, length}
 use Rattle.drt_model.specs.Numbers.{most_horizon}
 use Rattle.drt_model.specs.Digraph.{Digraph}
 use Rattle.drt_claims.specs.Claims.{graphs_of, IsFine, HaveUtilisationBelowOne, IsHorizon}
@@ -51,7 +51,8 @@ pub record HaveHorizon (graphs : List Digraph) (claims : List RatioClaim) : Type
 abbrev pub HaveNearHorizon : List Digraph → List RatioClaim → Type 0
 HaveNearHorizon graphs claims = (bound : ℕ) × IsHorizon graphs claims bound × (bound ≤ most_horizon)
 
--- What is known of a statement: the order of its tasks and, once it has been found, the horizon.
+-- What is known of a statement: the order of its tasks, which have no priority twice, and, once it has been found, the horizon.
 pub record IsKnownOf (s : Statement) (known : Known) : Type 0 where
   pub order : IsPriorityOrder s.set.tasks known.order
+  pub distinct : AllPairs (λ s t. s.priority ≢ t.priority) s.set.tasks
   pub horizon : IfSome known.horizon (IsHorizon (graphs_of s.set.tasks) (ratios_of s.evidence))

@@ -1,5 +1,5 @@
 //! What is found once for all rules of a dossier.
-ghost use Rattle.std.specs.Prelude.{◌≡◌, IfOk, None};
+ghost use Rattle.std.specs.Prelude.{◌≡◌, ◌≢◌, AllPairs, IfOk, None};
 ghost use Rattle.drt_check_trees.specs.Order.{IsPriorityOrder};
 
 use drt_check_trees::priority_order;
@@ -19,6 +19,7 @@ impl Known {
     /// What is known before any rule is asked: the order of the tasks.
     pub fn new(alloc: Global, set: &TaskSet) -> Result<Known, Memory>
         ensures order { IfOk result (λ known. IsPriorityOrder set.now.tasks known.order) }
+        ensures distinct { IfOk result (λ known. AllPairs (λ s t. s.priority ≢ t.priority) set.now.tasks) }
         ensures horizon { IfOk result (λ known. known.horizon ≡ None) }
     {
         let order = priority_order(alloc, set)?;

@@ -1,5 +1,5 @@
 //! The rules, one row for each.
-ghost use Rattle.std.specs.Prelude.{◌≡◌, ◌↔◌, IfOk, IsTrue};
+ghost use Rattle.std.specs.Prelude.{◌≡◌, ◌≢◌, ◌↔◌, AllPairs, IfOk, IsTrue};
 ghost use Rattle.drt_model.specs.Constrained.{AreConstrained};
 ghost use Rattle.drt_claims.specs.Claims.{graphs_of};
 ghost use Rattle.drt_claims.specs.Rules.{Applies, HasClaimedUtilisation, Keeps};
@@ -183,6 +183,7 @@ fn keeps_of_states(
     requires constrained { AreConstrained dossier.now.set.tasks }
     requires next { IsNextRule dossier.now rule }
     requires order { IsPriorityOrder dossier.now.set.tasks order.now }
+    requires distinct { AllPairs (λ s t. s.priority ≢ t.priority) dossier.now.set.tasks }
     requires states { IsOnStates rule }
     ensures { IfOk result (λ kept. IsTrue kept ↔ Keeps rule dossier.now) }
 {

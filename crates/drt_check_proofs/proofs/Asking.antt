@@ -7,7 +7,8 @@ use Rattle.drt_model.specs.declared.tasks.Task.{Task}
 use Rattle.drt_model.specs.Digraph.{digraph_of}
 use Rattle.drt_model.specs.Limits.{IsTask}
 use Rattle.drt_claims.specs.Proofs.{HasShape}
-use Rattle.drt_claims.specs.Trees.{IsTree, by_priority, tree_graphs}
+use Rattle.drt_claims.specs.Trees.{IsTree}
+use Rattle.drt_claims.specs.Sorting.{by_priority, sorted_graphs}
 use Rattle.drt_claims.specs.declared.evidence.ProofClaim.{ProofClaim}
 use Rattle.drt_claims.specs.declared.evidence.TreeClaim.{TreeClaim}
 use Rattle.drt_check_values.specs.declared.query.Query.{Query}
@@ -40,7 +41,7 @@ pub tree_is : (trees : List TreeClaim) (i : ℕ) (tree : TreeClaim) → All IsTr
 tree_is trees i tree all l is = subst (λ (t : TreeClaim). IsTree t) (sym is) (all i tree l)
 
 -- There are at most as many graphs of trees as trees.
-pub graphs_few : (tasks : List Task) (trees : List TreeClaim) (i : ℕ) → length trees ≤ i → length (tree_graphs tasks trees) ≤ i
+pub graphs_few : (tasks : List Task) (trees : List TreeClaim) (i : ℕ) → length trees ≤ i → length (sorted_graphs tasks trees) ≤ i
 graphs_few tasks trees i l = (let e = length-take (length trees) (map digraph_of (by_priority tasks)) in omega (arith, e))
 
 -- What follows from what a clause says of an answer.

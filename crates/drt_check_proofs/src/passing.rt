@@ -4,7 +4,8 @@ ghost use Rattle.std.specs.List.{AllByRecursion};
 ghost use Rattle.drt_claims.specs.Claims.{graphs_of};
 ghost use Rattle.drt_claims.specs.Proofs.{HasPassingTimes, HasShape};
 ghost use Rattle.drt_claims.specs.Ranges.{IsInRangeTree};
-ghost use Rattle.drt_claims.specs.Trees.{HasShortWalks, IsTree, IsTreePerHigherTask, greatest_deadline, tree_graphs};
+ghost use Rattle.drt_claims.specs.Trees.{HasShortWalks, IsTree, IsTreePerHigherTask, greatest_deadline};
+ghost use Rattle.drt_claims.specs.Sorting.{sorted_graphs};
 ghost use Rattle.drt_check_trees.specs.Order.{IsPriorityOrder};
 ghost use Rattle.drt_check_proofs.specs.Points.{AreRooms, IsPoint, IsTimely, marks, points};
 ghost use Rattle.drt_model.specs.Each.{Each};
@@ -35,10 +36,10 @@ pub fn have_passing_times(
     requires order { IsPriorityOrder set.now.tasks order.now }
     requires per_task { IsTreePerHigherTask set.now.tasks trees.now }
     requires in_range { All IsInRangeTree trees.now }
-    requires walks { Each (HasShortWalks (greatest_deadline set.now.tasks)) (tree_graphs set.now.tasks trees.now) trees.now }
+    requires walks { Each (HasShortWalks (greatest_deadline set.now.tasks)) (sorted_graphs set.now.tasks trees.now) trees.now }
     requires trees { All IsTree trees.now }
     requires proofs { All (HasShape set.now.tasks trees.now) proofs.now }
-    ensures { IfOk result (λ have. IsTrue have ↔ All (HasPassingTimes set.now.tasks (tree_graphs set.now.tasks trees.now) trees.now) proofs.now) }
+    ensures { IfOk result (λ have. IsTrue have ↔ All (HasPassingTimes set.now.tasks (sorted_graphs set.now.tasks trees.now) trees.now) proofs.now) }
 {
     let mut rooms = Vec::with_capacity(alloc, pass_count(proofs))?;
     if !add_rooms(set.tasks(), proofs, &mut rooms)? {
@@ -78,12 +79,12 @@ fn take_places(
     requires order { IsPriorityOrder set.now.tasks order.now }
     requires per_task { IsTreePerHigherTask set.now.tasks trees.now }
     requires in_range { All IsInRangeTree trees.now }
-    requires walks { Each (HasShortWalks (greatest_deadline set.now.tasks)) (tree_graphs set.now.tasks trees.now) trees.now }
+    requires walks { Each (HasShortWalks (greatest_deadline set.now.tasks)) (sorted_graphs set.now.tasks trees.now) trees.now }
     requires trees { All IsTree trees.now }
     requires proofs { All (HasShape set.now.tasks trees.now) proofs.now }
     requires timely { AllByRecursion IsTimely (marks set.now.tasks proofs.now) }
-    requires rooms { AreRooms (tree_graphs set.now.tasks trees.now) trees.now 0 (points set.now.tasks trees.now proofs.now) rooms.old }
-    ensures { IfOk result (λ have. IsTrue have ↔ AllByRecursion (IsPoint (tree_graphs set.now.tasks trees.now) trees.now) (points set.now.tasks trees.now proofs.now)) }
+    requires rooms { AreRooms (sorted_graphs set.now.tasks trees.now) trees.now 0 (points set.now.tasks trees.now proofs.now) rooms.old }
+    ensures { IfOk result (λ have. IsTrue have ↔ AllByRecursion (IsPoint (sorted_graphs set.now.tasks trees.now) trees.now) (points set.now.tasks trees.now proofs.now)) }
 {
     let tasks = set.tasks();
     let bound = greatest_deadline(set);

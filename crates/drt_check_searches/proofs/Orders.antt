@@ -10,8 +10,9 @@ use Rattle.drt_model.specs.declared.tasks.Task.{Task}
 use Rattle.drt_model.specs.Digraph.{Digraph, digraph_of}
 use Rattle.drt_graph.specs.Graphs.{graph_of, no_graph}
 use Rattle.drt_claims.specs.Claims.{graphs_of}
-use Rattle.drt_claims.specs.Searches.{higher_places, lower_deadline, place_of, places_of}
-use Rattle.drt_claims.specs.Trees.{by_priority, higher_count, placed}
+use Rattle.drt_claims.specs.Searches.{lower_deadline, place_of}
+use Rattle.drt_claims.specs.Sorting.{by_priority, placed, sorted_higher_places, sorted_places}
+use Rattle.drt_claims.specs.Trees.{higher_count}
 use Rattle.drt_states.specs.Tails.{graphs_of_places as place_graphs}
 use Rattle.drt_check_states.specs.Places.{AreTasks, graphs_at}
 use Rattle.drt_check_trees.specs.Order.{IsPriorityOrder}
@@ -31,7 +32,7 @@ unfolding by_priority
 length-by_priority [] = refl
 length-by_priority (t ∷ ts) = length-placed t (by_priority ts) ∙ ap suc (length-by_priority ts)
 
-pub places_long : (tasks : List Task) → length (places_of tasks) ≡ length tasks - 1
+pub places_long : (tasks : List Task) → length (sorted_places tasks) ≡ length tasks - 1
 places_long tasks =
     length-take-le (length tasks - 1) (map (place_of tasks) (by_priority tasks)) (omega (arith, length-map (by_priority tasks) (place_of tasks), length-by_priority tasks))
 
@@ -56,19 +57,19 @@ module _ (tasks : List Task) (order : List ℕ) (is : IsPriorityOrder tasks orde
       let first = some_at tasks 0 (omega (arith, l, order_long)) in
       slice_get_within tasks (get_or order i 0) (get_or (by_priority tasks) i first.0) (order_at i first.0 l)
 
-  pub place_in : (i : ℕ) → i < length (places_of tasks) → i < length order
+  pub place_in : (i : ℕ) → i < length (sorted_places tasks) → i < length order
   place_in i l = omega (arith, l, order_long, places_long tasks)
 
   -- The place of a number is that of the task there.
-  place_here : (i : ℕ) (t : Task) → i < length (places_of tasks) → slice_get tasks (get_or order i 0) ≡ Some t → place_at (places_of tasks) i ≡ place_of tasks t
+  place_here : (i : ℕ) (t : Task) → i < length (sorted_places tasks) → slice_get tasks (get_or order i 0) ≡ Some t → place_at (sorted_places tasks) i ≡ place_of tasks t
   place_here i t l at =
       let m : i < length (by_priority tasks) = omega (arith, l, places_long tasks, length-by_priority tasks) in
       let same : get_or (by_priority tasks) i t ≡ t = same_Some (get_or (by_priority tasks) i t) t (sym (order_at i t (place_in i l)) ∙ at) in
       get_or-take (length tasks - 1) (map (place_of tasks) (by_priority tasks)) i no_place (omega (arith, l, places_long tasks))
       ∙ (get_or-map (place_of tasks) (by_priority tasks) i t no_place m ∙ ap (place_of tasks) same)
 
-  pub graph_here : (graphs : List Digraph) (i : ℕ) (g : Digraph) → graphs ≡ graphs_of tasks → i < length (places_of tasks) → g ≡ graph_of graphs (get_or order i 0)
-      → g ≡ (place_at (places_of tasks) i).graph
+  pub graph_here : (graphs : List Digraph) (i : ℕ) (g : Digraph) → graphs ≡ graphs_of tasks → i < length (sorted_places tasks) → g ≡ graph_of graphs (get_or order i 0)
+      → g ≡ (place_at (sorted_places tasks) i).graph
   graph_here graphs i g e l at =
       let k : ℕ = get_or order i 0 in
       let below = order_below i (place_in i l) in
@@ -76,7 +77,7 @@ module _ (tasks : List Task) (order : List ℕ) (is : IsPriorityOrder tasks orde
       let task : get_or tasks k here.0 ≡ here.0 = get_or_from_slice_get tasks k here.0 here.0 here.1 in
       at ∙ (ap (λ gs. graph_of gs k) e ∙ (get_or-map digraph_of tasks k here.0 no_graph below ∙ (ap digraph_of task ∙ sym (ap (λ p. p.graph) (place_here i here.0 l here.1)))))
 
-  pub bound_here : (i : ℕ) (t : Task) → i < length (places_of tasks) → t ≡ get_or tasks (get_or order i 0) t → lower_deadline tasks t.priority ≡ (place_at (places_of tasks) i).bound
+  pub bound_here : (i : ℕ) (t : Task) → i < length (sorted_places tasks) → t ≡ get_or tasks (get_or order i 0) t → lower_deadline tasks t.priority ≡ (place_at (sorted_places tasks) i).bound
   bound_here i t l at =
       let k : ℕ = get_or order i 0 in
       let here : slice_get tasks k ≡ Some t = slice_get-get_or tasks k t (order_below i (place_in i l)) ∙ ap (λ x. Some x) (sym at) in
@@ -131,7 +132,7 @@ graphs_first tasks all (t ∷ ts) (k ∷ order) (suc n) (suc m) e l =
     cc (here, more)
 
 pub higher_graphs : (tasks : List Task) (order : List ℕ) (graphs : List Digraph) (k : ℕ) (t : Task) → IsPriorityOrder tasks order → graphs ≡ graphs_of tasks → slice_get tasks k ≡ Some t
-    → graphs_at graphs (take (higher_count tasks t.priority) order) ≡ place_graphs (higher_places tasks t)
+    → graphs_at graphs (take (higher_count tasks t.priority) order) ≡ place_graphs (sorted_higher_places tasks t)
 higher_graphs tasks order graphs k t is e at =
     let n : ℕ = higher_count tasks t.priority in
     let few = higher_few tasks k t at in

@@ -1,6 +1,7 @@
 //! Whether the times at which states of searches pass pass.
 ghost use Rattle.std.specs.Prelude.{◌↔◌, All, IfOk, IsTrue};
-ghost use Rattle.drt_claims.specs.Searches.{HasPassingStates, places_of};
+ghost use Rattle.drt_claims.specs.Searches.{HasPassingStates};
+ghost use Rattle.drt_claims.specs.Sorting.{sorted_places};
 ghost use Rattle.drt_states.specs.Tails.{EachTail, IsTail};
 ghost use Rattle.drt_check_states.specs.Crests.{AreCrests};
 
@@ -21,7 +22,7 @@ pub fn have_passing_states(
     tails: &[TailClaim],
     searches: &[SearchClaim],
 ) -> Result<bool, Memory>
-    requires tails { EachTail IsTail (places_of set.now.tasks) tails.now }
+    requires tails { EachTail IsTail (sorted_places set.now.tasks) tails.now }
     ensures { IfOk result (λ have. IsTrue have ↔ All (HasPassingStates set.now.tasks tails.now) searches.now) }
 {
     let crests = find_crests(alloc, tails)?;
@@ -34,7 +35,7 @@ fn are_passing(
     crests: &[Row<Jump>],
     searches: &[SearchClaim],
 ) -> bool
-    requires tails { EachTail IsTail (places_of set.now.tasks) tails.now }
+    requires tails { EachTail IsTail (sorted_places set.now.tasks) tails.now }
     requires crests { AreCrests tails.now crests.now }
     ensures { IsTrue result ↔ All (HasPassingStates set.now.tasks tails.now) searches.now }
 {
@@ -52,7 +53,7 @@ fn is_passing(
     crests: &[Row<Jump>],
     search: &SearchClaim,
 ) -> bool
-    requires tails { EachTail IsTail (places_of set.now.tasks) tails.now }
+    requires tails { EachTail IsTail (sorted_places set.now.tasks) tails.now }
     requires crests { AreCrests tails.now crests.now }
     ensures { IsTrue result ↔ HasPassingStates set.now.tasks tails.now search.now }
 {

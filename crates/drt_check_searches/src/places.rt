@@ -3,7 +3,7 @@ ghost use Rattle.std.specs.Prelude.{◌≡◌, ◌<◌, Some, length, nat_lt, sl
 ghost use Rattle.std.specs.List.{count_by};
 ghost use Rattle.drt_model.specs.declared.tasks.Task.{Task};
 ghost use Rattle.drt_claims.specs.Claims.{graphs_of};
-ghost use Rattle.drt_claims.specs.Searches.{higher_places, places_of};
+ghost use Rattle.drt_claims.specs.Sorting.{sorted_higher_places, sorted_places};
 ghost use Rattle.drt_claims.specs.Trees.{higher_count};
 ghost use Rattle.drt_states.specs.Tails.{graphs_of_places as place_graphs};
 ghost use Rattle.drt_check_states.specs.Places.{AreTasks, graphs_at};
@@ -23,8 +23,8 @@ pub(crate) fn graph_at<'a>(
 ) -> &'a Graph
     requires graphs { graphs.now ≡ graphs_of set.now.tasks }
     requires order { IsPriorityOrder set.now.tasks order.now }
-    requires place { place < length (places_of set.now.tasks) }
-    ensures { result.now ≡ (place_at (places_of set.now.tasks) place).graph }
+    requires place { place < length (sorted_places set.now.tasks) }
+    ensures { result.now ≡ (place_at (sorted_places set.now.tasks) place).graph }
 {
     graphs.graph(order[place])
 }
@@ -32,8 +32,8 @@ pub(crate) fn graph_at<'a>(
 /// The greatest deadline of the tasks of lower priority than the one at a place, in ticks.
 pub(crate) fn bound_at(set: &TaskSet, order: &[u32], place: usize) -> u32
     requires order { IsPriorityOrder set.now.tasks order.now }
-    requires place { place < length (places_of set.now.tasks) }
-    ensures { result ≡ (place_at (places_of set.now.tasks) place).bound }
+    requires place { place < length (sorted_places set.now.tasks) }
+    ensures { result ≡ (place_at (sorted_places set.now.tasks) place).bound }
 {
     let tasks = set.tasks();
     lower_deadline(tasks, tasks[order[place] as usize].priority)
@@ -50,7 +50,7 @@ pub(crate) fn higher_order<'a>(
     requires order { IsPriorityOrder set.now.tasks order.now }
     requires task { task < length set.now.tasks }
     ensures tasks { AreTasks graphs.now result.now }
-    ensures graphs { (t : Task) → slice_get set.now.tasks task ≡ Some t → graphs_at graphs.now result.now ≡ place_graphs (higher_places set.now.tasks t) }
+    ensures graphs { (t : Task) → slice_get set.now.tasks task ≡ Some t → graphs_at graphs.now result.now ≡ place_graphs (sorted_higher_places set.now.tasks t) }
 {
     let tasks = set.tasks();
     let count = higher_count(tasks, tasks[task as usize].priority);

@@ -2,6 +2,7 @@
 ghost use Rattle.std.specs.Prelude.{◌≡◌, ◌↔◌, All, IsTrue};
 ghost use Rattle.drt_claims.specs.Claims.{graphs_of};
 ghost use Rattle.drt_claims.specs.Searches.{HasDominatedChildren, HasStatesOver};
+ghost use Rattle.drt_claims.specs.Sorting.{by_priority};
 ghost use Rattle.drt_check_trees.specs.Order.{IsPriorityOrder};
 
 use crate::places::higher_order;
@@ -21,8 +22,8 @@ pub fn have_dominated_splits(
 ) -> bool
     requires graphs { graphs.now ≡ graphs_of set.now.tasks }
     requires order { IsPriorityOrder set.now.tasks order.now }
-    requires states { All (HasStatesOver set.now.tasks) searches.now }
-    ensures { IsTrue result ↔ All (HasDominatedChildren set.now.tasks) searches.now }
+    requires states { All (HasStatesOver set.now.tasks (by_priority set.now.tasks)) searches.now }
+    ensures { IsTrue result ↔ All (HasDominatedChildren set.now.tasks (by_priority set.now.tasks)) searches.now }
 {
     for i in 0..searches.len() {
         if !has_dominated_splits(set, graphs, order, &searches[i]) {
@@ -35,8 +36,8 @@ pub fn have_dominated_splits(
 fn has_dominated_splits(set: &TaskSet, graphs: &Graphs, order: &[u32], search: &SearchClaim) -> bool
     requires graphs { graphs.now ≡ graphs_of set.now.tasks }
     requires order { IsPriorityOrder set.now.tasks order.now }
-    requires states { HasStatesOver set.now.tasks search.now }
-    ensures { IsTrue result ↔ HasDominatedChildren set.now.tasks search.now }
+    requires states { HasStatesOver set.now.tasks (by_priority set.now.tasks) search.now }
+    ensures { IsTrue result ↔ HasDominatedChildren set.now.tasks (by_priority set.now.tasks) search.now }
 {
     let tasks = set.tasks();
     if search.task as usize >= tasks.len() {

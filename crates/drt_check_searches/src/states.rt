@@ -2,6 +2,7 @@
 ghost use Rattle.std.specs.Prelude.{◌≡◌, ◌↔◌, All, IsTrue};
 ghost use Rattle.drt_claims.specs.Claims.{graphs_of};
 ghost use Rattle.drt_claims.specs.Searches.{HasStatesOver};
+ghost use Rattle.drt_claims.specs.Sorting.{by_priority};
 ghost use Rattle.drt_check_trees.specs.Order.{IsPriorityOrder};
 
 use crate::places::higher_order;
@@ -14,7 +15,7 @@ use drt_states::SearchClaim;
 pub fn have_states(set: &TaskSet, graphs: &Graphs, order: &[u32], searches: &[SearchClaim]) -> bool
     requires graphs { graphs.now ≡ graphs_of set.now.tasks }
     requires order { IsPriorityOrder set.now.tasks order.now }
-    ensures { IsTrue result ↔ All (HasStatesOver set.now.tasks) searches.now }
+    ensures { IsTrue result ↔ All (HasStatesOver set.now.tasks (by_priority set.now.tasks)) searches.now }
 {
     for i in 0..searches.len() {
         if !has_states(set, graphs, order, &searches[i]) {
@@ -27,7 +28,7 @@ pub fn have_states(set: &TaskSet, graphs: &Graphs, order: &[u32], searches: &[Se
 fn has_states(set: &TaskSet, graphs: &Graphs, order: &[u32], search: &SearchClaim) -> bool
     requires graphs { graphs.now ≡ graphs_of set.now.tasks }
     requires order { IsPriorityOrder set.now.tasks order.now }
-    ensures { IsTrue result ↔ HasStatesOver set.now.tasks search.now }
+    ensures { IsTrue result ↔ HasStatesOver set.now.tasks (by_priority set.now.tasks) search.now }
 {
     if search.task as usize >= set.tasks().len() {
         return true;

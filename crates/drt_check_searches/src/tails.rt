@@ -1,7 +1,7 @@
 //! Whether there is a tail for each place, and the tails bound what walks ask for.
 ghost use Rattle.std.specs.Prelude.{◌≡◌, ◌↔◌, IsTrue};
 ghost use Rattle.drt_claims.specs.Claims.{graphs_of};
-ghost use Rattle.drt_claims.specs.Searches.{places_of};
+ghost use Rattle.drt_claims.specs.Sorting.{sorted_places};
 ghost use Rattle.drt_states.specs.Tails.{BoundsWalks, EachTail, IsTail};
 ghost use Rattle.drt_check_trees.specs.Order.{IsPriorityOrder};
 
@@ -16,7 +16,7 @@ use drt_states::TailClaim;
 pub fn has_rising_tails(set: &TaskSet, graphs: &Graphs, order: &[u32], tails: &[TailClaim]) -> bool
     requires graphs { graphs.now ≡ graphs_of set.now.tasks }
     requires order { IsPriorityOrder set.now.tasks order.now }
-    ensures { IsTrue result ↔ EachTail IsTail (places_of set.now.tasks) tails.now }
+    ensures { IsTrue result ↔ EachTail IsTail (sorted_places set.now.tasks) tails.now }
 {
     if tails.len() != set.tasks().len() - 1 {
         return false;
@@ -35,8 +35,8 @@ pub fn has_rising_tails(set: &TaskSet, graphs: &Graphs, order: &[u32], tails: &[
 pub fn bound_walks(set: &TaskSet, graphs: &Graphs, order: &[u32], tails: &[TailClaim]) -> bool
     requires graphs { graphs.now ≡ graphs_of set.now.tasks }
     requires order { IsPriorityOrder set.now.tasks order.now }
-    requires tails { EachTail IsTail (places_of set.now.tasks) tails.now }
-    ensures { IsTrue result ↔ EachTail BoundsWalks (places_of set.now.tasks) tails.now }
+    requires tails { EachTail IsTail (sorted_places set.now.tasks) tails.now }
+    ensures { IsTrue result ↔ EachTail BoundsWalks (sorted_places set.now.tasks) tails.now }
 {
     for i in 0..tails.len() {
         let graph = graph_at(set, graphs, order, i);

@@ -1,7 +1,7 @@
 -- Worked rows of this crate's definitions.
 use Rattle.std.proofs.Common.{◌≡◌, true, false, [], ◌∷◌, refl}
 use Rattle.drt_model.specs.declared.tasks.Task.{Task}
-use Rattle.drt_claims.specs.Trees.{by_priority, placed}
+use Rattle.drt_claims.specs.Sorting.{by_priority, placed}
 use Rattle.drt_check_trees.specs.Entries.{is_up_to, last_in}
 use Rattle.drt_check_trees.specs.Marks.{marked, names}
 use Rattle.drt_check_trees.specs.declared.entries.Entry.{Entry}

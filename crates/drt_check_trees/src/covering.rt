@@ -4,7 +4,8 @@ ghost use Rattle.drt_model.specs.Numbers.{most_time};
 ghost use Rattle.drt_model.specs.Digraph.{out_degree};
 ghost use Rattle.drt_model.specs.Walk.{work, span_of};
 ghost use Rattle.drt_claims.specs.Claims.{graphs_of};
-ghost use Rattle.drt_claims.specs.Trees.{CoversWalks, HasOpeningWalks, HasShortWalks, IsClosedWalk, IsShortWalk, IsTreePerHigherTask, greatest_deadline, tree_graphs};
+ghost use Rattle.drt_claims.specs.Trees.{CoversWalks, HasOpeningWalks, HasShortWalks, IsClosedWalk, IsShortWalk, IsTreePerHigherTask, greatest_deadline};
+ghost use Rattle.drt_claims.specs.Sorting.{sorted_graphs};
 ghost use Rattle.drt_check_trees.specs.Entries.{IsCatalogue, IsExtendedBy, last_in};
 ghost use Rattle.drt_check_trees.specs.Gaps.{IsBoundedGraph};
 ghost use Rattle.drt_check_trees.specs.Order.{IsPriorityOrder};
@@ -33,8 +34,8 @@ pub fn cover_walks(
     requires graphs { graphs.now ≡ graphs_of set.now.tasks }
     requires order { IsPriorityOrder set.now.tasks order.now }
     requires per_task { IsTreePerHigherTask set.now.tasks trees.now }
-    requires short { Each (HasShortWalks (greatest_deadline set.now.tasks)) (tree_graphs set.now.tasks trees.now) trees.now }
-    ensures { IfOk result (λ covers. IsTrue covers ↔ Each (CoversWalks (greatest_deadline set.now.tasks)) (tree_graphs set.now.tasks trees.now) trees.now) }
+    requires short { Each (HasShortWalks (greatest_deadline set.now.tasks)) (sorted_graphs set.now.tasks trees.now) trees.now }
+    ensures { IfOk result (λ covers. IsTrue covers ↔ Each (CoversWalks (greatest_deadline set.now.tasks)) (sorted_graphs set.now.tasks trees.now) trees.now) }
 {
     let bound = greatest_deadline(set);
     for i in 0..trees.len() {

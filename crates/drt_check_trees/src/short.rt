@@ -2,7 +2,8 @@
 ghost use Rattle.std.specs.Prelude.{◌≡◌, ◌↔◌, ◌≤◌, IsTrue};
 ghost use Rattle.drt_model.specs.Numbers.{most_time};
 ghost use Rattle.drt_claims.specs.Claims.{graphs_of};
-ghost use Rattle.drt_claims.specs.Trees.{HasShortWalks, IsShortWalk, IsTreePerHigherTask, greatest_deadline, tree_graphs};
+ghost use Rattle.drt_claims.specs.Trees.{HasShortWalks, IsShortWalk, IsTreePerHigherTask, greatest_deadline};
+ghost use Rattle.drt_claims.specs.Sorting.{sorted_graphs};
 ghost use Rattle.drt_check_trees.specs.Order.{IsPriorityOrder};
 ghost use Rattle.drt_model.specs.Each.{Each};
 
@@ -17,7 +18,7 @@ pub fn have_short_walks(set: &TaskSet, graphs: &Graphs, order: &[u32], trees: &[
     requires graphs { graphs.now ≡ graphs_of set.now.tasks }
     requires order { IsPriorityOrder set.now.tasks order.now }
     requires per_task { IsTreePerHigherTask set.now.tasks trees.now }
-    ensures { IsTrue result ↔ Each (HasShortWalks (greatest_deadline set.now.tasks)) (tree_graphs set.now.tasks trees.now) trees.now }
+    ensures { IsTrue result ↔ Each (HasShortWalks (greatest_deadline set.now.tasks)) (sorted_graphs set.now.tasks trees.now) trees.now }
 {
     let bound = greatest_deadline(set);
     for i in 0..trees.len() {

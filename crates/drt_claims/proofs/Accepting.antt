@@ -17,7 +17,7 @@ use Rattle.drt_claims.specs.Proofs.{IsProofPerVertex, HasShape, HasPassingTimes}
 use Rattle.drt_claims.specs.Rules.{Accepts, Applies, Keeps}
 use Rattle.drt_claims.specs.Searches.{HasDominatedChildren, HasPassingStates, HasStatesOver, IsSearchPerVertex, places_of}
 use Rattle.drt_claims.specs.Statement.{Statement}
-use Rattle.drt_claims.specs.Trees.{CoversWalks, HasShortWalks, IsTree, IsTreePerHigherTask, greatest_deadline, tree_graphs}
+use Rattle.drt_claims.specs.Trees.{AreByPriority, CoversWalks, HasShortWalks, IsTree, IsTreePerHigherTask, greatest_deadline, tree_graphs}
 use Rattle.drt_claims.specs.declared.evidence.Evidence.{Evidence}
 use Rattle.drt_claims.specs.declared.evidence.Evidence.TheVariants.{EdfYes, EdfNo, UtilisationOne, FixedYes, FixedStates, FixedNo}
 use Rattle.drt_graph.specs.declared.front.FrontEntry.{FrontEntry}
@@ -70,28 +70,28 @@ pub record IsUtilisationOne (tasks : List Task) (ratios : List RatioClaim) : Typ
   pub claims : AreRatioClaims tasks ratios
   pub one : HaveUtilisationOne ratios
 
--- What the rules 16 to 19 ask up to the greatest deadline.
-pub record AreTreeClaims (tasks : List Task) (trees : List TreeClaim) : Type 0 where
+-- What the rules 16 to 19 ask up to the greatest deadline, the tasks in order of priority given.
+pub record AreTreeClaims (tasks sorted : List Task) (trees : List TreeClaim) : Type 0 where
   pub per_task : IsTreePerHigherTask tasks trees
-  pub short : Each (HasShortWalks (greatest_deadline tasks)) (tree_graphs tasks trees) trees
-  pub covers : Each (CoversWalks (greatest_deadline tasks)) (tree_graphs tasks trees) trees
+  pub short : Each (HasShortWalks (greatest_deadline tasks)) (tree_graphs sorted trees) trees
+  pub covers : Each (CoversWalks (greatest_deadline tasks)) (tree_graphs sorted trees) trees
   pub shapes : All IsTree trees
 
 -- What the rules from 16 on ask of a yes of fixed priorities.
-pub record IsFixedYes (tasks : List Task) (trees : List TreeClaim) (proofs : List ProofClaim) : Type 0 where
-  pub trees_are : AreTreeClaims tasks trees
+pub record IsFixedYes (tasks sorted : List Task) (trees : List TreeClaim) (proofs : List ProofClaim) : Type 0 where
+  pub trees_are : AreTreeClaims tasks sorted trees
   pub per_vertex : IsProofPerVertex tasks proofs
   pub shapes : All (HasShape tasks trees) proofs
-  pub times : All (HasPassingTimes tasks (tree_graphs tasks trees) trees) proofs
+  pub times : All (HasPassingTimes tasks (tree_graphs sorted trees) trees) proofs
 
 -- What the rules from 25 on ask of a yes by tails and states.
-pub record IsFixedStates (tasks : List Task) (tails : List TailClaim) (searches : List SearchClaim) : Type 0 where
-  pub rising : EachTail IsTail (places_of tasks) tails
-  pub bounding : EachTail BoundsWalks (places_of tasks) tails
+pub record IsFixedStates (tasks sorted : List Task) (tails : List TailClaim) (searches : List SearchClaim) : Type 0 where
+  pub rising : EachTail IsTail (places_of tasks sorted) tails
+  pub bounding : EachTail BoundsWalks (places_of tasks sorted) tails
   pub per_vertex : IsSearchPerVertex tasks searches
-  pub states : All (HasStatesOver tasks) searches
+  pub states : All (HasStatesOver tasks sorted) searches
   pub passing : All (HasPassingStates tasks tails) searches
-  pub children : All (HasDominatedChildren tasks) searches
+  pub children : All (HasDominatedChildren tasks sorted) searches
 
 -- What they ask of a no.
 pub record IsRefutation (policy : Policy) (tasks : List Task) (releases : List Release) (miss : Miss) : Type 0 where
@@ -158,33 +158,33 @@ fixed_no_accepted set releases miss constrained is = record { claims = λ e. abs
     keeps LeastMiss a = is.misses
     keeps other a = absurd a
 
-pub fixed_yes_accepted : (set : Contents) (trees : List TreeClaim) (proofs : List ProofClaim) → AreConstrained set.tasks → IsFixedYes set.tasks trees proofs
-    → Accepts (statement Fixed set (FixedYes trees proofs))
-fixed_yes_accepted set trees proofs constrained is = record { claims = λ e. absurd (cc); keeps = keeps }
+pub fixed_yes_accepted : (set : Contents) (sorted : List Task) (trees : List TreeClaim) (proofs : List ProofClaim) → AreConstrained set.tasks
+    → AreByPriority set.tasks sorted → IsFixedYes set.tasks sorted trees proofs → Accepts (statement Fixed set (FixedYes trees proofs))
+fixed_yes_accepted set sorted trees proofs constrained in_order is = record { claims = λ e. absurd (cc); keeps = keeps }
   where
     keeps : (rule : Rule) → Applies rule (FixedYes trees proofs) → Keeps rule (statement Fixed set (FixedYes trees proofs))
     keeps ConstrainedDeadlines a = constrained
     keeps KindOfPolicy a = refl
     keeps TreePerHigherTask a = is.trees_are.per_task
-    keeps ShortWalks a = is.trees_are.short
-    keeps CoveredWalks a = is.trees_are.covers
+    keeps ShortWalks a = (sorted, in_order, is.trees_are.short)
+    keeps CoveredWalks a = (sorted, in_order, is.trees_are.covers)
     keeps TreeShapes a = is.trees_are.shapes
     keeps ProofPerVertex a = is.per_vertex
     keeps ProofShapes a = is.shapes
-    keeps PassingTimes a = is.times
+    keeps PassingTimes a = (sorted, in_order, is.times)
     keeps other a = absurd a
 
-pub fixed_states_accepted : (set : Contents) (tails : List TailClaim) (searches : List SearchClaim) → AreConstrained set.tasks → IsFixedStates set.tasks tails searches
-    → Accepts (statement Fixed set (FixedStates tails searches))
-fixed_states_accepted set tails searches constrained is = record { claims = λ e. absurd (cc); keeps = keeps }
+pub fixed_states_accepted : (set : Contents) (sorted : List Task) (tails : List TailClaim) (searches : List SearchClaim) → AreConstrained set.tasks
+    → AreByPriority set.tasks sorted → IsFixedStates set.tasks sorted tails searches → Accepts (statement Fixed set (FixedStates tails searches))
+fixed_states_accepted set sorted tails searches constrained in_order is = record { claims = λ e. absurd (cc); keeps = keeps }
   where
     keeps : (rule : Rule) → Applies rule (FixedStates tails searches) → Keeps rule (statement Fixed set (FixedStates tails searches))
     keeps ConstrainedDeadlines a = constrained
     keeps KindOfPolicy a = refl
-    keeps RisingTails a = is.rising
-    keeps BoundingTails a = is.bounding
+    keeps RisingTails a = (sorted, in_order, is.rising)
+    keeps BoundingTails a = (sorted, in_order, is.bounding)
     keeps SearchPerVertex a = is.per_vertex
-    keeps SearchStates a = is.states
+    keeps SearchStates a = (sorted, in_order, is.states)
     keeps PassingStates a = is.passing
-    keeps DominatedChildren a = is.children
+    keeps DominatedChildren a = (sorted, in_order, is.children)
     keeps other a = absurd a

@@ -6,5 +6,6 @@ pub mod Kinds
 pub mod Trees
 pub mod Proofs
 pub mod Searches
+pub mod Sorting
 pub mod Rules
 pub mod Rates

@@ -1,5 +1,5 @@
 -- The rules of the checker, each said once. A rule is a sentence over lists and numbers, and speaks of no search.
-use Rattle.std.specs.Prelude.{◌≡◌, ℕ, ◌≤◌, ◌<◌, ◌^◌, All}
+use Rattle.std.specs.Prelude.{◌≡◌, ℕ, ◌≤◌, ◌<◌, All}
 use Rattle.drt_model.specs.Numbers.{most_horizon}
 use Rattle.drt_model.specs.Constrained.{AreConstrained}
 use Rattle.drt_model.specs.Digraph.{Digraph}
@@ -14,7 +14,7 @@ use Rattle.drt_claims.specs.Kinds.{tails_of, searches_of}
 use Rattle.drt_claims.specs.Proofs.{IsProofPerVertex, HasShape, HasPassingTimes}
 use Rattle.drt_claims.specs.Searches.{HasDominatedChildren, HasPassingStates, HasStatesOver, IsSearchPerVertex, places_of}
 use Rattle.drt_claims.specs.Statement.{Statement}
-use Rattle.drt_claims.specs.Trees.{CoversWalks, HasShortWalks, IsTree, IsTreePerHigherTask, greatest_deadline, tree_graphs}
+use Rattle.drt_claims.specs.Trees.{ByPriority, CoversWalks, HasShortWalks, IsTree, IsTreePerHigherTask, greatest_deadline, tree_graphs}
 use Rattle.drt_claims.specs.declared.evidence.Evidence.{Evidence}
 use Rattle.drt_claims.specs.declared.evidence.Evidence.TheVariants.{EdfYes, UtilisationOne, Undecided}
 use Rattle.drt_claims.specs.declared.evidence.TreeClaim.{TreeClaim}
@@ -104,7 +104,8 @@ AtHorizon s R = (bound : ℕ) × IsHorizon (graphs_of s.set.tasks) (ratios_of s.
 
 -- It holds of each tree and the graph of its task, up to the greatest deadline.
 abbrev pub EachTree : Statement → (ℕ → Digraph → TreeClaim → Type 0) → Type 0
-EachTree s R = Each (R (greatest_deadline s.set.tasks)) (tree_graphs s.set.tasks (trees_of s.evidence)) (trees_of s.evidence)
+EachTree s R =
+    ByPriority s.set.tasks (λ sorted. Each (R (greatest_deadline s.set.tasks)) (tree_graphs sorted (trees_of s.evidence)) (trees_of s.evidence))
 
 -- The statement keeps the rule. What a rule says counts only where it applies and those that apply and have smaller numbers are kept: before,
 -- there may be no horizon.
@@ -130,15 +131,17 @@ Keeps CoveredWalks s = EachTree s CoversWalks
 Keeps TreeShapes s = All IsTree (trees_of s.evidence)
 Keeps ProofPerVertex s = IsProofPerVertex s.set.tasks (proofs_of s.evidence)
 Keeps ProofShapes s = All (HasShape s.set.tasks (trees_of s.evidence)) (proofs_of s.evidence)
-Keeps PassingTimes s = All (HasPassingTimes s.set.tasks (tree_graphs s.set.tasks (trees_of s.evidence)) (trees_of s.evidence)) (proofs_of s.evidence)
+Keeps PassingTimes s =
+    ByPriority s.set.tasks (λ sorted.
+    All (HasPassingTimes s.set.tasks (tree_graphs sorted (trees_of s.evidence)) (trees_of s.evidence)) (proofs_of s.evidence))
 Keeps LegalReleases s = IsLegal s.set.tasks (stated_releases s.evidence)
 Keeps LeastMiss s = IsLeastMiss s.policy (jobs_of s.set.tasks (stated_releases s.evidence)) (stated_miss s.evidence)
-Keeps RisingTails s = EachTail IsTail (places_of s.set.tasks) (tails_of s.evidence)
-Keeps BoundingTails s = EachTail BoundsWalks (places_of s.set.tasks) (tails_of s.evidence)
+Keeps RisingTails s = ByPriority s.set.tasks (λ sorted. EachTail IsTail (places_of s.set.tasks sorted) (tails_of s.evidence))
+Keeps BoundingTails s = ByPriority s.set.tasks (λ sorted. EachTail BoundsWalks (places_of s.set.tasks sorted) (tails_of s.evidence))
 Keeps SearchPerVertex s = IsSearchPerVertex s.set.tasks (searches_of s.evidence)
-Keeps SearchStates s = All (HasStatesOver s.set.tasks) (searches_of s.evidence)
+Keeps SearchStates s = ByPriority s.set.tasks (λ sorted. All (HasStatesOver s.set.tasks sorted) (searches_of s.evidence))
 Keeps PassingStates s = All (HasPassingStates s.set.tasks (tails_of s.evidence)) (searches_of s.evidence)
-Keeps DominatedChildren s = All (HasDominatedChildren s.set.tasks) (searches_of s.evidence)
+Keeps DominatedChildren s = ByPriority s.set.tasks (λ sorted. All (HasDominatedChildren s.set.tasks sorted) (searches_of s.evidence))
 
 -- A statement is accepted where something is claimed and each rule that applies is kept.
 pub record Accepts (s : Statement) : Type 0 where

@@ -4,7 +4,7 @@ use Rattle.drt_model.specs.declared.tasks.Task.{Task}
 use Rattle.drt_model.specs.Digraph.{digraph_of}
 use Rattle.drt_model.specs.Walk.{deadline, wcet}
 use Rattle.drt_claims.specs.Proofs.{subjects_from}
-use Rattle.drt_claims.specs.Trees.{by_priority, greatest_deadline, higher_count}
+use Rattle.drt_claims.specs.Trees.{greatest_deadline, higher_count}
 use Rattle.drt_states.specs.States.{AreStates, HaveDominatedChildren, HavePassingTimes}
 use Rattle.drt_states.specs.Tails.{Place, graphs_of_places}
 use Rattle.drt_states.specs.declared.claims.SearchClaim.{SearchClaim}
@@ -18,13 +18,13 @@ lower_deadline tasks priority = greatest_deadline (filter (λ t. nat_lt priority
 abbrev pub place_of : List Task → Task → Place
 place_of tasks t = record { graph = digraph_of t; bound = lower_deadline tasks t.priority }
 
--- The places, in order of priority: there is one for each task but the one of lowest priority.
-abbrev pub places_of : List Task → List Place
-places_of tasks = take (length tasks - 1) (map (place_of tasks) (by_priority tasks))
+-- The places of the tasks, which are given in order of priority too: there is one for each task but the one of lowest priority.
+abbrev pub places_of : List Task → List Task → List Place
+places_of tasks sorted = take (length tasks - 1) (map (place_of tasks) sorted)
 
 -- The places of the tasks of higher priority than a task's.
-abbrev pub higher_places : List Task → Task → List Place
-higher_places tasks t = take (higher_count tasks t.priority) (places_of tasks)
+abbrev pub higher_places : List Task → List Task → Task → List Place
+higher_places tasks sorted t = take (higher_count tasks t.priority) (places_of tasks sorted)
 
 -- The tails of the tasks of higher priority than a task's.
 abbrev pub higher_tails : List Task → List TailClaim → Task → List TailClaim
@@ -35,8 +35,9 @@ abbrev pub IsSearchPerVertex : List Task → List SearchClaim → Type 0
 IsSearchPerVertex tasks searches = map (λ s. (s.task, s.vertex)) searches ≡ subjects_from 0 tasks
 
 -- The states of the search are states over the tasks of higher priority than its task's.
-abbrev pub HasStatesOver : List Task → SearchClaim → Type 0
-HasStatesOver tasks s = (t : Task) → slice_get tasks s.task ≡ Some t → AreStates (graphs_of_places (higher_places tasks t)) s.states
+abbrev pub HasStatesOver : List Task → List Task → SearchClaim → Type 0
+HasStatesOver tasks sorted s =
+    (t : Task) → slice_get tasks s.task ≡ Some t → AreStates (graphs_of_places (higher_places tasks sorted t)) s.states
 
 -- The states of the search pass at times that have room, up to the deadline of its vertex.
 abbrev pub HasPassingStates : List Task → List TailClaim → SearchClaim → Type 0
@@ -45,7 +46,7 @@ HasPassingStates tasks tails s =
     → HavePassingTimes (deadline (digraph_of t) s.vertex) (wcet (digraph_of t) s.vertex) (higher_tails tasks tails t) s.states
 
 -- The states of the search that are split have children, and each of them is dominated by a state of the search.
-abbrev pub HasDominatedChildren : List Task → SearchClaim → Type 0
-HasDominatedChildren tasks s =
+abbrev pub HasDominatedChildren : List Task → List Task → SearchClaim → Type 0
+HasDominatedChildren tasks sorted s =
     (t : Task) → slice_get tasks s.task ≡ Some t
-    → HaveDominatedChildren (graphs_of_places (higher_places tasks t)) (deadline (digraph_of t) s.vertex) s.states
+    → HaveDominatedChildren (graphs_of_places (higher_places tasks sorted t)) (deadline (digraph_of t) s.vertex) s.states

@@ -1,6 +1,8 @@
 -- Claimed trees: for each task but the one of lowest priority, walks whose request functions are to stand for those of all its
 -- walks, and pairs that join them by greatest values.
-use Rattle.std.specs.Prelude.{◌≡◌, ℕ, ◌+◌, ◌-◌, ◌≤◌, ◌<◌, ◌⊎◌, ◌==◌, max, nat_lt, if◌then◌else◌, List, [], ◌∷◌, ◌++◌, length, map, take, count_by, slice_get, slice_index_or, Some, All, Any}
+use Rattle.std.specs.Prelude.{◌≡◌, ℕ, ◌+◌, ◌-◌, ◌≤◌, ◌<◌, ◌⊎◌, ◌==◌, max, nat_lt, All, AllPairs, Any, []}
+use Rattle.std.specs.Prelude.{List, [], ◌∷◌, ◌++◌, length, map, take, count_by, slice_get, slice_index_or, Some}
+use Rattle.std.specs.List.Sorted.{IsPermutation}
 use Rattle.drt_model.specs.declared.tasks.Task.{Task}
 use Rattle.drt_model.specs.declared.tasks.Vertex.{Vertex}
 use Rattle.drt_model.specs.Digraph.{Digraph, digraph_of, vertex_count, out_degree, edge_of}
@@ -18,15 +20,14 @@ unfoldable pub greatest_deadline : List Task → ℕ
 greatest_deadline [] = 0
 greatest_deadline (t ∷ tasks) = max (latest_deadline t.vertices) (greatest_deadline tasks)
 
--- The task, put before the first of some that has a lower priority (a greater number).
-unfoldable pub placed : Task → List Task → List Task
-placed t [] = t ∷ []
-placed t (u ∷ tasks) = if nat_lt t.priority u.priority then t ∷ u ∷ tasks else u ∷ placed t tasks
+-- These are the tasks in order of priority, the highest (the least number) first.
+pub record AreByPriority (tasks sorted : List Task) : Type 0 where
+  pub permutation : IsPermutation tasks sorted
+  pub rising : AllPairs (λ s t. s.priority < t.priority) sorted
 
--- The tasks in order of priority, the highest (the least number) first.
-unfoldable pub by_priority : List Task → List Task
-by_priority [] = []
-by_priority (t ∷ tasks) = placed t (by_priority tasks)
+-- It holds of the tasks in order of priority.
+abbrev pub ByPriority : List Task → (List Task → Type 0) → Type 0
+ByPriority tasks R = (sorted : List Task) × AreByPriority tasks sorted × R sorted
 
 -- How many tasks have a higher priority than the number stands for.
 abbrev pub higher_count : List Task → ℕ → ℕ
@@ -36,9 +37,9 @@ higher_count tasks priority = count_by (λ t. nat_lt t.priority priority) tasks
 abbrev pub IsTreePerHigherTask : List Task → List TreeClaim → Type 0
 IsTreePerHigherTask tasks trees = length trees + 1 ≡ length tasks
 
--- The graphs of the tasks that have a tree, in order of priority.
+-- The graphs of those of the tasks, in order of priority, that have a tree.
 abbrev pub tree_graphs : List Task → List TreeClaim → List Digraph
-tree_graphs tasks trees = take (length trees) (map digraph_of (by_priority tasks))
+tree_graphs sorted trees = take (length trees) (map digraph_of sorted)
 
 -- A walk of the graph: it has at least one vertex, follows edges, and spans less than the bound.
 abbrev pub IsShortWalk : ℕ → Digraph → List ℕ → Type 0

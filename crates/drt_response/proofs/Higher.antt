@@ -11,7 +11,8 @@ use Rattle.drt_graph.proofs.Soundness.{all_sound}
 use Rattle.drt_busy.specs.Choice.{graph_at, requests, task_at}
 use Rattle.drt_states.specs.Tails.{Place, graphs_of_places}
 use Rattle.drt_states_laws.specs.Laws.{AreWalksOf, asked_together}
-use Rattle.drt_claims.specs.Searches.{higher_places, place_of}
+use Rattle.drt_claims.specs.Searches.{place_of}
+use Rattle.drt_claims.specs.Sorting.{sorted_higher_places}
 use Rattle.drt_claims.specs.Trees.{higher_count}
 use Rattle.drt_check.proofs.SoundOrder.{AreWalked, Walked, asks, higher_below, higher_first, ordered, ordered_all, ordered_tasks, put}
 use Rattle.drt_check.proofs.SoundOrder.{requests_first, tasks_of, total_first, walked}
@@ -85,7 +86,7 @@ abbrev pub higher : List Task → (ℕ → List ℕ) → ℕ → List Walked
 higher tasks walks k = take (higher_count tasks (task_at tasks k).priority) (ordered (walked tasks walks))
 
 -- The places of these tasks.
-pub higher_are : (tasks : List Task) (walks : ℕ → List ℕ) (k : ℕ) → k < length tasks → higher_places tasks (task_at tasks k) ≡ places_in tasks (higher tasks walks k)
+pub higher_are : (tasks : List Task) (walks : ℕ → List ℕ) (k : ℕ) → k < length tasks → sorted_higher_places tasks (task_at tasks k) ≡ places_in tasks (higher tasks walks k)
 higher_are tasks walks k l =
     let n : ℕ = higher_count tasks (task_at tasks k).priority in
     let below = higher_below tasks (task_at tasks k).priority k l (omega arith) in

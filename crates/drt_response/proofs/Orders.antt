@@ -11,8 +11,9 @@ use Rattle.drt_model.specs.Limits.{IsTaskSet}
 use Rattle.drt_graph.specs.Graphs.{graph_of, no_graph}
 use Rattle.drt_busy.specs.Choice.{task_at}
 use Rattle.drt_claims.specs.Claims.{graphs_of}
-use Rattle.drt_claims.specs.Searches.{higher_places, place_of, places_of}
-use Rattle.drt_claims.specs.Trees.{by_priority, higher_count}
+use Rattle.drt_claims.specs.Searches.{place_of}
+use Rattle.drt_claims.specs.Sorting.{by_priority, sorted_higher_places, sorted_places}
+use Rattle.drt_claims.specs.Trees.{higher_count}
 use Rattle.drt_states.specs.declared.claims.TailClaim.{TailClaim}
 use Rattle.drt_states.specs.Tails.{IsTail, graphs_of_places as place_graphs}
 use Rattle.drt_check.proofs.SoundOrder.{higher_below}
@@ -20,9 +21,10 @@ use Rattle.drt_check_states.specs.Places.{AreTasks, graphs_at}
 use Rattle.drt_check_trees.specs.Order.{IsPriorityOrder}
 use Rattle.drt_response.specs.Tails.{HaveTails}
 use Rattle.drt_response.proofs.Places.{length-by_priority}
+use Rattle.drt_response.proofs.Rises.{tails_rising}
 
 -- There is one place fewer than tasks.
-pub places_long : (tasks : List Task) → length (places_of tasks) ≡ length tasks - 1
+pub places_long : (tasks : List Task) → length (sorted_places tasks) ≡ length tasks - 1
 places_long tasks =
     length-take-le (length tasks - 1) (map (place_of tasks) (by_priority tasks)) (omega (arith, length-map (by_priority tasks) (place_of tasks), length-by_priority tasks))
 
@@ -58,7 +60,7 @@ graphs_first tasks all (t ∷ ts) (k ∷ order) (suc n) (suc m) e l =
 
 -- There is a tail for each place.
 pub tails_long : (tasks : List Task) (tails : List TailClaim) → HaveTails tasks tails → length tails ≡ length tasks - 1
-tails_long tasks tails have = sym (zip_long (λ p tail. IsTail p.bound p.graph tail) (places_of tasks) tails have.rising) ∙ places_long tasks
+tails_long tasks tails have = sym (zip_long (λ p tail. IsTail p.bound p.graph tail) (sorted_places tasks) tails (tails_rising tasks tails have)) ∙ places_long tasks
 
 -- Fewer tasks than there are have a higher priority than one of them.
 pub few_higher : (tasks : List Task) (k : ℕ) → k < length tasks → higher_count tasks (task_at tasks k).priority < length tasks
@@ -87,7 +89,7 @@ module _ (tasks : List Task) (order : List ℕ) (is : IsPriorityOrder tasks orde
         All-take (λ k. k < length graphs) n order counted
 
     -- The graphs of the tasks of higher priority are those of their places.
-    pub higher_graphs : (k : ℕ) → k < length tasks → graphs_at graphs (take (higher_count tasks (task_at tasks k).priority) order) ≡ place_graphs (higher_places tasks (task_at tasks k))
+    pub higher_graphs : (k : ℕ) → k < length tasks → graphs_at graphs (take (higher_count tasks (task_at tasks k).priority) order) ≡ place_graphs (sorted_higher_places tasks (task_at tasks k))
     higher_graphs k task =
         let n : ℕ = higher_count tasks (task_at tasks k).priority in
         ap (λ gs. graphs_at gs (take n order)) same ∙ graphs_first tasks tasks (by_priority tasks) order n (length tasks - 1) is (omega (arith, few_higher tasks k task))

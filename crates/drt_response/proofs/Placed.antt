@@ -7,8 +7,8 @@ use Rattle.drt_model.specs.Limits.{IsTaskSet}
 use Rattle.drt_busy.specs.Choice.{AreWalks, requests, task_at}
 use Rattle.drt_states.specs.Tails.{graphs_of_places}
 use Rattle.drt_states_laws.specs.Laws.{asked_together}
-use Rattle.drt_claims.specs.Searches.{higher_places}
-use Rattle.drt_claims.specs.Trees.{by_priority, higher_count}
+use Rattle.drt_claims.specs.Sorting.{by_priority, sorted_higher_places}
+use Rattle.drt_claims.specs.Trees.{higher_count}
 use Rattle.drt_releases.specs.Walks.{walk_at}
 use Rattle.drt_check.proofs.SoundOrder.{AreWalked, Walked, ordered, ordered_tasks, tasks_of, walked}
 use Rattle.drt_response.specs.Placed.{walk_in_priority_order}
@@ -46,7 +46,7 @@ module _ (place : ℕ → ℕ) (all : List (List ℕ)) where
       (ap (λ y. y ∷ walks_in (take n xs)) walk ∙ ap (λ ws. w ∷ ws) rest.0, (subst (λ y. IsWalk (digraph_of x.0) y) (sym walk) each.0, rest.1))
 
 module _ (version : ℕ) (tasks : List Task) (limits : IsTaskSet version tasks) (k : ℕ) (task : k < length tasks) (walks : List (List ℕ))
-    (each : AllZip IsWalk (graphs_of_places (higher_places tasks (task_at tasks k))) walks) where
+    (each : AllZip IsWalk (graphs_of_places (sorted_higher_places tasks (task_at tasks k))) walks) where
   both : (walks_in (higher tasks (walk_in_priority_order tasks walks) k) ≡ walks) × AreWalked (ordered (walked tasks (walk_in_priority_order tasks walks)))
   both =
       let chosen : ℕ → List ℕ = walk_in_priority_order tasks walks in
@@ -63,7 +63,7 @@ module _ (version : ℕ) (tasks : List Task) (limits : IsTaskSet version tasks) 
 
   -- What they ask for is what the list asks for.
   pub placed_asked : (t : ℕ) → requests tasks (walk_in_priority_order tasks walks) (task_at tasks k).priority (length tasks) t ≡ asked_together
-      (graphs_of_places (higher_places tasks (task_at tasks k))) walks t
+      (graphs_of_places (sorted_higher_places tasks (task_at tasks k))) walks t
   placed_asked t =
       let chosen : ℕ → List ℕ = walk_in_priority_order tasks walks in
       let ps = ap (λ qs. asked_together (graphs_of_places qs) walks t) (sym (higher_are tasks chosen k task)) in

@@ -7,7 +7,8 @@ use Rattle.std.proofs.lemmas.List.Elements.{recursion_from_All}
 use Rattle.std.proofs.lemmas.List.Sums.{sum_by-cons}
 use Rattle.drt_model.specs.declared.tasks.Task.{Task}
 use Rattle.drt_model.specs.Limits.{IsTaskSet}
-use Rattle.drt_claims.specs.Trees.{by_priority, higher_count, placed}
+use Rattle.drt_claims.specs.Trees.{higher_count}
+use Rattle.drt_claims.specs.Sorting.{by_priority, placed}
 
 length-placed : (t : Task) (ts : List Task) → length (placed t ts) ≡ suc (length ts)
 unfolding placed

@@ -19,7 +19,8 @@ use Rattle.drt_states.specs.States.{AreStates, HaveDominatedChildren}
 use Rattle.drt_states.specs.Tails.{BoundsWalks, EachTail, IsTail, graphs_of_places}
 use Rattle.drt_states_laws.specs.Laws.{StatesPass}
 use Rattle.drt_sp.specs.ChoiceLaws.{AreReachingReleases}
-use Rattle.drt_claims.specs.Searches.{higher_places, higher_tails, places_of}
+use Rattle.drt_claims.specs.Searches.{higher_tails}
+use Rattle.drt_claims.specs.Sorting.{sorted_higher_places, sorted_places}
 use Rattle.drt_claims.specs.Trees.{higher_count}
 use Rattle.drt_check.proofs.SoundOrder.{Walked, ordered, ordered_walked, walked}
 use Rattle.drt_fixed.proofs.Prefixes.{zip_take}
@@ -29,11 +30,12 @@ use Rattle.drt_response.specs.Answers.{IsResponseOf}
 use Rattle.drt_response.specs.Placed.{walk_in_priority_order}
 use Rattle.drt_response.proofs.Higher.{first_walks, higher, higher_are, higher_near, higher_sound, places_in, requests_together, walks_in}
 use Rattle.drt_response.proofs.Placed.{placed_are_walks, placed_asked}
+use Rattle.drt_response.proofs.Rises.{tails_bounding, tails_rising}
 use Rattle.drt_model.specs.Numbers.{most_time}
 
 module _ (version : ℕ) (tasks : List Task) (limits : IsTaskSet version tasks) (tails : List TailClaim) (have : HaveTails tasks tails)
     (k v : ℕ) (task : k < length tasks) (vertex : v < vertex_count (graph_at tasks k)) (ticks : ℕ) (walks : List (List ℕ))
-    (worst : AreWorst (graphs_of_places (higher_places tasks (task_at tasks k))) (higher_tails tasks tails (task_at tasks k)) (wcet (graph_at tasks k) v)
+    (worst : AreWorst (graphs_of_places (sorted_higher_places tasks (task_at tasks k))) (higher_tails tasks tails (task_at tasks k)) (wcet (graph_at tasks k) v)
     (deadline (graph_at tasks k) v) ticks walks) where
   -- Whatever the walks, some time up to the number has room.
   most : StatesPass → (others : ℕ → List ℕ) → AreWalks tasks others → FitsWithin tasks others k v ticks
@@ -42,8 +44,8 @@ module _ (version : ℕ) (tasks : List Task) (limits : IsTaskSet version tasks) 
       let xs : List Walked = ordered (walked tasks others) in
       let first : List Walked = higher tasks others k in
       let same = higher_are tasks others k task in
-      let rising = subst (λ ps. EachTail IsTail ps (take n tails)) same (zip_take (λ q tail. IsTail q.bound q.graph tail) n (places_of tasks) tails have.rising) in
-      let bounding = subst (λ ps. EachTail BoundsWalks ps (take n tails)) same (zip_take (λ q tail. BoundsWalks q.bound q.graph tail) n (places_of tasks) tails have.bounding) in
+      let rising = subst (λ ps. EachTail IsTail ps (take n tails)) same (zip_take (λ q tail. IsTail q.bound q.graph tail) n (sorted_places tasks) tails (tails_rising tasks tails have)) in
+      let bounding = subst (λ ps. EachTail BoundsWalks ps (take n tails)) same (zip_take (λ q tail. BoundsWalks q.bound q.graph tail) n (sorted_places tasks) tails (tails_bounding tasks tails have)) in
       let states = subst (λ ps. AreStates (graphs_of_places ps) worst.states) same worst.are in
       let children = subst (λ ps. HaveDominatedChildren (graphs_of_places ps) worst.bound worst.states) same worst.children in
       let found = pass (places_in tasks first) (take n tails) (wcet (graph_at tasks k) v) worst.bound ticks worst.states

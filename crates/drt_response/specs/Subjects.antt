@@ -10,7 +10,8 @@ use Rattle.drt_states.specs.Tails.{graphs_of_places as place_graphs}
 use Rattle.drt_check_states.specs.Crests.{AreCrests}
 use Rattle.drt_check_states.specs.Places.{graphs_at}
 use Rattle.drt_check_trees.specs.Order.{IsPriorityOrder}
-use Rattle.drt_claims.specs.Searches.{higher_places, higher_tails}
+use Rattle.drt_claims.specs.Searches.{higher_tails}
+use Rattle.drt_claims.specs.Sorting.{sorted_higher_places}
 use Rattle.drt_sp_states.specs.Answers.{AreWorst}
 use Rattle.drt_sp_states.specs.declared.places.Subject.{Subject}
 use Rattle.drt_responses.specs.declared.response.Response.{Response}
@@ -28,7 +29,7 @@ pub record IsResponseGiven (g : Given) : Type 0 where
 
 -- The subject has the graphs and the tails of the tasks of higher priority, and the numbers of the vertex.
 pub record IsResponseSubject (g : Given) (at : VertexAt) (s : Subject) : Type 0 where
-  pub graphs : graphs_at s.graphs.now s.order.now ≡ place_graphs (higher_places g.set.now.tasks (task_at g.set.now.tasks at.task))
+  pub graphs : graphs_at s.graphs.now s.order.now ≡ place_graphs (sorted_higher_places g.set.now.tasks (task_at g.set.now.tasks at.task))
   pub tails : s.tails.now ≡ higher_tails g.set.now.tasks g.tails.now (task_at g.set.now.tasks at.task)
   pub wcet : s.wcet ≡ wcet (graph_at g.set.now.tasks at.task) at.vertex
   pub deadline : s.deadline ≡ deadline (graph_at g.set.now.tasks at.task) at.vertex
@@ -36,7 +37,7 @@ pub record IsResponseSubject (g : Given) (at : VertexAt) (s : Subject) : Type 0 
 -- Walks of the tasks of higher priority reach the number at the vertex, and none reach more.
 abbrev pub AreWorstAt : Given → VertexAt → ℕ → List (List ℕ) → Type 0
 AreWorstAt g at ticks walks =
-    AreWorst (place_graphs (higher_places g.set.now.tasks (task_at g.set.now.tasks at.task))) (higher_tails g.set.now.tasks g.tails.now (task_at g.set.now.tasks at.task))
+    AreWorst (place_graphs (sorted_higher_places g.set.now.tasks (task_at g.set.now.tasks at.task))) (higher_tails g.set.now.tasks g.tails.now (task_at g.set.now.tasks at.task))
     (wcet (graph_at g.set.now.tasks at.task) at.vertex) (deadline (graph_at g.set.now.tasks at.task) at.vertex) ticks walks
 
 -- It is a vertex of a task of the set.

@@ -1,11 +1,12 @@
 -- A worked yes of fixed priorities: the tree of a task's walks, and the proofs of the vertices.
-use Rattle.std.proofs.Common.{◌≡◌, ℕ, List, [], ◌∷◌, Option, Some, None, map, refl}
-use Rattle.std.specs.Prelude.{codes}
+use Rattle.std.proofs.Common.{◌≡◌, ℕ, zero, suc, ◌<◌, List, [], ◌∷◌, Option, Some, None, map, refl, lit<, arith}
+use Rattle.std.specs.Prelude.{AllPairs, codes}
+use Rattle.std.proofs.lemmas.List.Sorted.{IsPermutation-swap}
 use Rattle.drt_model.specs.declared.tasks.Task.{Task}
 use Rattle.drt_model.specs.Digraph.{digraph_of}
 use Rattle.drt_model.specs.Walk.{sep_in, or_zero, requested_from}
 use Rattle.drt_claims.specs.Proofs.{after_all, opening_stack, node_parts, passes, subjects_from, tree_sum_at}
-use Rattle.drt_claims.specs.Trees.{by_priority, greatest_deadline, higher_count, joined, latest_deadline, named, node_values, placed, root}
+use Rattle.drt_claims.specs.Trees.{AreByPriority, greatest_deadline, higher_count, joined, latest_deadline, named, node_values, root}
 use Rattle.drt_claims.specs.declared.evidence.Item.TheVariants.{Pass, Split}
 use Rattle.drt_claims.specs.declared.evidence.Pair.{Pair}
 use Rattle.drt_claims.specs.declared.evidence.TreeClaim.{TreeClaim}
@@ -20,9 +21,20 @@ abbrev lower : Task
 lower = record { name = codes "T2"; priority = 2; vertices = vertex (codes "z") 2 5 ∷ []; edges = edge 0 0 10 ∷ [] }
 
 -- Whatever the order of the file, the one with the lesser number comes first; one task is above the other, and none above the first.
-pub in_order : by_priority (lower ∷ upper ∷ []) ≡ upper ∷ lower ∷ []
-unfolding by_priority placed
-in_order = refl
+pub in_order : AreByPriority (lower ∷ upper ∷ []) (upper ∷ lower ∷ [])
+in_order = record {
+  permutation = IsPermutation-swap (lower ∷ upper ∷ []) (upper ∷ lower ∷ []) 0 1 (lit< tt) (lit< tt) refl;
+  rising = rising;
+}
+  where
+    rising : AllPairs (λ s t. s.priority < t.priority) (upper ∷ lower ∷ [])
+    rising zero (suc zero) d l m = lit< tt
+    rising i zero d l m = absurd (omega (arith, l))
+    rising (suc i) (suc zero) d l m = absurd (omega (arith, l))
+    rising i (suc (suc j)) d l m = absurd (omega (arith, m))
+
+pub not_in_order : ¬ AreByPriority (lower ∷ upper ∷ []) (lower ∷ upper ∷ [])
+not_in_order are = absurd (let l : 2 < 1 = are.rising 0 1 lower (lit< tt) (lit< tt) in omega (arith, l))
 
 pub one_above : higher_count (lower ∷ upper ∷ []) 2 ≡ 1
 one_above = refl

@@ -6,7 +6,6 @@ pub mod Members
 pub mod Missed
 pub mod Rows
 pub mod Responses
-pub mod Rising
 pub mod FewWalks
 pub mod Products
 pub mod EnoughSearches

@@ -1,27 +1,20 @@
--- Orders of tasks by priority: places and tasks, and the same order as a dossier's.
-use Rattle.std.proofs.Common.{inl, inr, ◌⊎◌, ◌≡◌, ◌≢◌, ℕ, zero, suc, ◌+◌, ◌<◌, ◌≤◌, Bool, true, false, cond, eqb, ltb, List, [], ◌∷◌, ◌++◌, length, map, take, drop, get_or}
-use Rattle.std.proofs.Common.{count_by, All, Contains, sym, ap, ◌∙◌, subst, arith}
-use Rattle.std.specs.Prelude.{AllPairs}
+-- Orders of tasks by priority: places and tasks.
+use Rattle.std.proofs.Common.{inl, inr, ◌≡◌, ℕ, zero, suc, ◌+◌, ◌<◌, ◌≤◌, Bool, true, false, cond, ltb, List, [], ◌∷◌, ◌++◌, length, map, take, drop, get_or}
+use Rattle.std.proofs.Common.{count_by, sum_by, All, refl, sym, ap, ◌∙◌, subst, arith}
 use Rattle.std.specs.List.{range_with_len}
-use Rattle.std.specs.List.Sorted.{IsNonDecreasingBy, IsPermutation}
-use Rattle.std.proofs.lemmas.Bool.{cases_order, cases_Bool, lt-ltb, le-ltb, ltb-true, ltb-false}
-use Rattle.std.proofs.lemmas.Bool.Decides.{Decides-eqb}
-use Rattle.std.proofs.lemmas.Map.Keys.{IsDistinct-IsPermutation}
-use Rattle.std.proofs.lemmas.Map.Made.{AllPairs-from_IsDistinct, IsDistinct-from_AllPairs}
-use Rattle.std.proofs.lemmas.List.{ext_get_or, get_or-drop, get_or-map, get_or-take, get_or_default, length-drop, length-map, length-take-le, map-id, take-append-drop}
-use Rattle.std.proofs.lemmas.List.Elements.{All-cons, All-nil, All-from_get_or, All-head, All-tail, All-weaker, Contains-get_or}
-use Rattle.std.proofs.lemmas.List.FromFn.{get_or-map-range_with_len, get_or-range_with_len, length-range_with_len, map-range_with_len_more}
-use Rattle.std.proofs.lemmas.List.Kept.{AllPairs-cons}
-use Rattle.std.proofs.lemmas.List.Sums.{sum_by-append}
+use Rattle.std.proofs.lemmas.Bool.{cases_order, lt-ltb, le-ltb}
+use Rattle.std.proofs.lemmas.List.{get_or-drop, get_or-take, get_or_default, length-drop, length-take-le, take-append-drop}
+use Rattle.std.proofs.lemmas.List.Elements.{All-head, All-tail}
+use Rattle.std.proofs.lemmas.List.FromFn.{length-range_with_len}
+use Rattle.std.proofs.lemmas.List.Sums.{sum_by-append, sum_by-cons}
 use Rattle.std.proofs.lemmas.Simd.{map-map}
 use Rattle.std.proofs.lemmas.List.Sorted.{All-permutation, Contains-permutation, length_permutation, sum_by-IsPermutation}
 use Rattle.drt_model.specs.declared.tasks.Task.{Task}
 use Rattle.drt_model.specs.Digraph.{digraph_of}
-use Rattle.drt_busy.specs.Choice.{graph_at, no_task, task_at}
+use Rattle.drt_busy.specs.Choice.{graph_at, task_at}
 use Rattle.drt_check_trees.specs.Order.{IsOrder}
-use Rattle.drt_claims.specs.Trees.{by_priority, higher_count, placed}
-use Rattle.drt_check_trees.proofs.Ranked.{all_range, in_range}
-use Rattle.drt_sp.proofs.Rising.{all_contains, contains_cases, contains_first, contains_later, count_all, count_none, eqb_flips, pairs_head, pairs_tail, rising_unique, sum-map}
+use Rattle.drt_claims.specs.Trees.{higher_count}
+use Rattle.drt_check_trees.proofs.Ranked.{all_range, all_tasks, in_range}
 
 module _ (tasks : List Task) (order : List ℕ) (is : IsOrder tasks order) where
   pub order_count : length order ≡ length tasks
@@ -59,123 +52,28 @@ module _ (tasks : List Task) (order : List ℕ) (is : IsOrder tasks order) where
     ]
   ]
 
--- Putting a task into its place.
-module _ (t : Task) where
-  pub placed_first : (ts : List Task) → Contains (placed t ts) t
-  unfolding placed
-  placed_first [] = contains_first t []
-  placed_first (u ∷ ts) = elim (cases_Bool (ltb t.priority u.priority)) [
-    | inl h ↦ rw h (contains_first t (u ∷ ts))
-    | inr h ↦ rw h (contains_later u (placed t ts) t (placed_first ts))
-  ]
+-- How many items of a list pass a test, and sums over lists.
+count_all : {X : Type 0} (p : X → Bool) (xs : List X) → All (λ x. p x ≡ true) xs → count_by p xs ≡ length xs
+count_all p [] all = refl
+count_all p (x ∷ xs) all =
+    let here : p x ≡ true = All-head (λ x. p x ≡ true) x xs all in
+    let one : ◌≡◌ {A = ℕ} (cond (p x) 1 0) 1 = rw here refl in
+    omega (arith, sum_by-cons (λ x. cond (p x) 1 0) x xs, one, count_all p xs (All-tail (λ x. p x ≡ true) x xs all))
 
-  pub placed_later : (ts : List Task) (z : Task) → Contains ts z → Contains (placed t ts) z
-  unfolding placed
-  placed_later [] z c = contains_later t [] z c
-  placed_later (u ∷ ts) z c = elim (cases_Bool (ltb t.priority u.priority)) [
-    | inl h ↦ rw h (contains_later t (u ∷ ts) z c)
-    | inr h ↦ rw h (elim (contains_cases u ts z c) [
-      | inl e ↦ subst (λ x. Contains (u ∷ placed t ts) x) e (contains_first u (placed t ts))
-      | inr d ↦ contains_later u (placed t ts) z (placed_later ts z d)
-    ])
-  ]
+count_none : {X : Type 0} (p : X → Bool) (xs : List X) → All (λ x. p x ≡ false) xs → count_by p xs ≡ 0
+count_none p [] all = refl
+count_none p (x ∷ xs) all =
+    let here : p x ≡ false = All-head (λ x. p x ≡ false) x xs all in
+    let none : ◌≡◌ {A = ℕ} (cond (p x) 1 0) 0 = rw here refl in
+    omega (arith, sum_by-cons (λ x. cond (p x) 1 0) x xs, none, count_none p xs (All-tail (λ x. p x ≡ false) x xs all))
 
-  pub placed_cases : (ts : List Task) (z : Task) → Contains (placed t ts) z → (t ≡ z) ⊎ Contains ts z
-  unfolding placed
-  placed_cases [] z c = contains_cases t [] z c
-  placed_cases (u ∷ ts) z c = elim (cases_Bool (ltb t.priority u.priority)) [
-    | inl h ↦ contains_cases t (u ∷ ts) z (rw h at c)
-    | inr h ↦ elim (contains_cases u (placed t ts) z (rw h at c)) [
-      | inl e ↦ inr (subst (λ x. Contains (u ∷ ts) x) e (contains_first u ts))
-      | inr d ↦ elim (placed_cases ts z d) [
-        | inl e ↦ inl e
-        | inr f ↦ inr (contains_later u ts z f)
-      ]
-    ]
-  ]
-
-  pub placed_rises : (ts : List Task) → AllPairs (λ a b. a.priority < b.priority) ts → All (λ u. t.priority ≢ u.priority) ts
-      → AllPairs (λ a b. a.priority < b.priority) (placed t ts)
-  unfolding placed
-  placed_rises [] rises apart = AllPairs-cons (λ a b. a.priority < b.priority) t [] (All-nil (λ b. t.priority < b.priority)) rises
-  placed_rises (u ∷ ts) rises apart = elim (cases_Bool (ltb t.priority u.priority)) [
-    | inl h ↦
-        (let less = ltb-true t.priority u.priority h in
-        let others : All (R t) ts = All-weaker (R u) (R t) (λ b l. omega (arith, less, l)) ts (pairs_head R u ts rises) in
-        rw h (AllPairs-cons R t (u ∷ ts) (All-cons (R t) u ts less others) rises))
-    | inr h ↦ rw h (AllPairs-cons R u (placed t ts) (after h) (placed_rises ts (pairs_tail R u ts rises) (All-tail (λ b. t.priority ≢ b.priority) u ts apart)))
-  ]
-    where
-      R : Task → Task → Type 0
-      R a b = a.priority < b.priority
-
-      after : ltb t.priority u.priority ≡ false → All (R u) (placed t ts)
-      after h i d l = elim (placed_cases ts (get_or (placed t ts) i d) (Contains-get_or (placed t ts) i d l)) [
-        | inl e ↦ (let ne : t.priority ≢ u.priority = All-head (λ b. t.priority ≢ b.priority) u ts apart in
-            let le : u.priority ≤ t.priority = ltb-false t.priority u.priority h in
-            let less : u.priority < t.priority = omega (arith, le, ne) in
-            subst (R u) e less)
-        | inr c ↦ all_contains (R u) ts (get_or (placed t ts) i d) (pairs_head R u ts rises) c
-      ]
-
-pub sorted_has : (ts : List Task) (z : Task) → Contains ts z → Contains (by_priority ts) z
-unfolding by_priority
-sorted_has [] z c = c
-sorted_has (t ∷ ts) z c = elim (contains_cases t ts z c) [
-  | inl e ↦ subst (λ x. Contains (placed t (by_priority ts)) x) e (placed_first t (by_priority ts))
-  | inr d ↦ placed_later t (by_priority ts) z (sorted_has ts z d)
-]
-
-pub has_sorted : (ts : List Task) (z : Task) → Contains (by_priority ts) z → Contains ts z
-unfolding by_priority
-has_sorted [] z c = c
-has_sorted (t ∷ ts) z c = elim (placed_cases t (by_priority ts) z c) [
-  | inl e ↦ subst (λ x. Contains (t ∷ ts) x) e (contains_first t ts)
-  | inr d ↦ contains_later t ts z (has_sorted ts z d)
-]
-
-pub sorted_rises : (ts : List Task) → AllPairs (λ s t. s.priority ≢ t.priority) ts → AllPairs (λ a b. a.priority < b.priority) (by_priority ts)
-unfolding by_priority
-sorted_rises [] apart = apart_none
-  where
-    apart_none : AllPairs {X = Task} (λ a b. a.priority < b.priority) []
-    apart_none i j d l m = absurd (omega arith)
-sorted_rises (t ∷ ts) apart =
-    placed_rises t (by_priority ts) (sorted_rises ts (pairs_tail (λ s t. s.priority ≢ t.priority) t ts apart)) others
-  where
-    others : All (λ u. t.priority ≢ u.priority) (by_priority ts)
-    others i d l = all_contains (λ u. t.priority ≢ u.priority) ts (get_or (by_priority ts) i d) (pairs_head (λ s t. s.priority ≢ t.priority) t ts apart)
-        (has_sorted ts (get_or (by_priority ts) i d) (Contains-get_or (by_priority ts) i d l))
+sum-map : {X Y : Type 0} (f : Y → ℕ) (g : X → Y) (xs : List X) → sum_by f (map g xs) ≡ sum_by (λ x. f (g x)) xs
+sum-map f g [] = refl
+sum-map f g (x ∷ xs) = sum_by-cons f (g x) (map g xs) ∙ ap (λ n. f (g x) + n) (sum-map f g xs) ∙ sym (sum_by-cons (λ y. f (g y)) x xs)
 
 module _ (tasks : List Task) (order : List ℕ) (is : IsOrder tasks order) where
-  order_has : (z : Task) → Contains (map (task_at tasks) order) z → Contains tasks z
-  order_has z (i, l, e) =
-      let m : i < length order = omega (arith, l, length-map order (task_at tasks)) in
-      let k : ℕ = get_or order i 0 in
-      let below : k < length tasks = order_below tasks order is i m in
-      (k, below, get_or_default tasks k z no_task below ∙ (sym (get_or-map (task_at tasks) order i 0 z m) ∙ e))
-
-  has_order : (z : Task) → Contains tasks z → Contains (map (task_at tasks) order) z
-  has_order z (k, l, e) =
-      let at = order_place tasks order is k l in
-      (at.0, omega (arith, at.1, length-map order (task_at tasks)), get_or-map (task_at tasks) order at.0 0 z at.1 ∙ (ap (task_at tasks) at.2 ∙ (get_or_default tasks k no_task z l ∙ e)))
-
-  rises_tasks : AllPairs (λ a b. a.priority < b.priority) (map (task_at tasks) order)
-  rises_tasks i j d l m =
-      let n : j < length order = omega (arith, m, length-map order (task_at tasks)) in
-      let o : i < length order = omega arith in
-      let a : get_or (map (task_at tasks) order) i d ≡ task_at tasks (get_or order i 0) = get_or-map (task_at tasks) order i 0 d o in
-      let b : get_or (map (task_at tasks) order) j d ≡ task_at tasks (get_or order j 0) = get_or-map (task_at tasks) order j 0 d n in
-      omega (arith, order_rises tasks order is i j l n, ap (λ t. t.priority) a, ap (λ t. t.priority) b)
-
-  -- The tasks in this order are those in a dossier's.
-  pub order_tasks : AllPairs (λ s t. s.priority ≢ t.priority) tasks → map (task_at tasks) order ≡ by_priority tasks
-  order_tasks apart =
-      rising_unique (λ t. t.priority) (map (task_at tasks) order) (by_priority tasks) rises_tasks (sorted_rises tasks apart)
-      (λ z c. sorted_has tasks z (order_has z c)) (λ z c. has_order z (has_sorted tasks z c))
-
-  pub order_graphs : AllPairs (λ s t. s.priority ≢ t.priority) tasks → map (graph_at tasks) order ≡ map digraph_of (by_priority tasks)
-  order_graphs apart = sym (map-map digraph_of (task_at tasks) order) ∙ ap (map digraph_of) (order_tasks apart)
+  pub order_graphs : map (graph_at tasks) order ≡ map digraph_of (map (task_at tasks) order)
+  order_graphs = sym (map-map digraph_of (task_at tasks) order)
 
   -- As many tasks have a higher priority than one as stand before it.
   pub order_higher : (m : ℕ) → m < length order → higher_count tasks (task_at tasks (get_or order m 0)).priority ≡ m
@@ -183,7 +81,7 @@ module _ (tasks : List Task) (order : List ℕ) (is : IsOrder tasks order) where
       let p : ℕ = (task_at tasks (get_or order m 0)).priority in
       let test : Task → Bool = λ t. ltb t.priority p in
       let at : ℕ → Bool = λ j. ltb (task_at tasks j).priority p in
-      let all : map (task_at tasks) (range_with_len 0 (length tasks)) ≡ tasks = whole in
+      let all : map (task_at tasks) (range_with_len 0 (length tasks)) ≡ tasks = all_tasks tasks in
       let a : count_by test (map (task_at tasks) (range_with_len 0 (length tasks))) ≡ count_by at (range_with_len 0 (length tasks))
       = sum-map (λ t. cond (test t) 1 0) (task_at tasks) (range_with_len 0 (length tasks)) in
       let b : count_by at order ≡ count_by at (range_with_len 0 (length tasks)) = sum_by-IsPermutation (λ j. cond (at j) 1 0) (range_with_len 0 (length tasks)) order is.permutation in
@@ -198,12 +96,6 @@ module _ (tasks : List Task) (order : List ℕ) (is : IsOrder tasks order) where
     where
       p' : ℕ
       p' = (task_at tasks (get_or order m 0)).priority
-
-      whole : map (task_at tasks) (range_with_len 0 (length tasks)) ≡ tasks
-      whole = ext_get_or no_task (map (task_at tasks) (range_with_len 0 (length tasks))) tasks
-          (length-map (range_with_len 0 (length tasks)) (task_at tasks) ∙ length-range_with_len 0 (length tasks))
-          (λ i l. (let k : i < length tasks = omega (arith, l, length-map (range_with_len 0 (length tasks)) (task_at tasks), length-range_with_len 0 (length tasks)) in
-          get_or-map-range_with_len (task_at tasks) 0 (length tasks) i i no_task k (omega arith)))
 
       before : All (λ j. ltb (task_at tasks j).priority p' ≡ true) (take m order)
       before i d k =

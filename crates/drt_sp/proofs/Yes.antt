@@ -22,11 +22,12 @@ use Rattle.drt_check_trees.specs.Order.{IsOrder}
 use Rattle.drt_model.specs.Each.{Each}
 use Rattle.drt_claims.specs.Proofs.{HasPassingTimes, HasShape, HasPassingTime, after_all, opening_stack, passes, subjects_from}
 use Rattle.drt_claims.specs.Ranges.{IsEvidenceInRange, IsInRangeProof}
-use Rattle.drt_claims.specs.Trees.{CoversWalks, HasShortWalks, IsTree, by_priority, greatest_deadline, higher_count, root, tree_graphs}
+use Rattle.drt_claims.specs.Trees.{CoversWalks, HasShortWalks, IsTree, greatest_deadline, higher_count, root, tree_graphs}
 use Rattle.drt_claims.specs.declared.evidence.Evidence.TheVariants.{FixedYes}
 use Rattle.drt_claims.specs.declared.evidence.ProofClaim.{ProofClaim}
 use Rattle.drt_claims.specs.declared.evidence.TreeClaim.{TreeClaim}
 use Rattle.drt_claims.proofs.Accepting.{fixed_yes_accepted}
+use Rattle.drt_check_trees.proofs.Ranked.{order_sorts}
 use Rattle.drt_sp.specs.Answers.{IsExactTreeYes}
 use Rattle.drt_sp.specs.Progress.{AreTreesGrown, AreProofsAt, AreProved, IsProofAt, first_graphs}
 use Rattle.drt_sp.specs.TreeClaims.{IsTreeOf}
@@ -107,18 +108,22 @@ module _ (tasks : List Task) (order : List ℕ) (order_is : IsOrder tasks order)
       let a : length (first_graphs tasks order last) ≡ last = length-take-le last (map (graph_at tasks) order) (omega (arith, length-map order (graph_at tasks))) in
       sym (each_length (IsTreeOf (greatest_deadline tasks)) (first_graphs tasks order last) trees grown.exact) ∙ a
 
-  graphs_are : first_graphs tasks order last ≡ tree_graphs tasks trees
-  graphs_are = ap (take last) (order_graphs tasks order order_is limits.distinct_priorities) ∙ ap (λ n. take n (map digraph_of (by_priority tasks))) (sym count_trees)
+  -- The tasks in order of priority.
+  abbrev ranked : List Task
+  ranked = map (task_at tasks) order
 
-  graphs_first : (i : ℕ) → i ≤ last → first_graphs tasks order i ≡ take i (tree_graphs tasks trees)
+  graphs_are : first_graphs tasks order last ≡ tree_graphs ranked trees
+  graphs_are = ap (take last) (order_graphs tasks order order_is) ∙ ap (λ n. take n (map digraph_of ranked)) (sym count_trees)
+
+  graphs_first : (i : ℕ) → i ≤ last → first_graphs tasks order i ≡ take i (tree_graphs ranked trees)
   graphs_first i l = sym (take-take i last (map (graph_at tasks) order) l) ∙ ap (take i) graphs_are
 
-  exact_trees : Each (IsTreeOf (greatest_deadline tasks)) (tree_graphs tasks trees) trees
+  exact_trees : Each (IsTreeOf (greatest_deadline tasks)) (tree_graphs ranked trees) trees
   exact_trees = subst (λ gs. Each (IsTreeOf (greatest_deadline tasks)) gs trees) graphs_are grown.exact
 
   -- Each of the first trees has the shape of one.
   take_trees : (i : ℕ) → All IsTree (take i trees)
-  take_trees i = All-take IsTree i trees (each_second (IsTreeOf (greatest_deadline tasks)) IsTree (λ g t is. is.tree) (tree_graphs tasks trees) trees exact_trees)
+  take_trees i = All-take IsTree i trees (each_second (IsTreeOf (greatest_deadline tasks)) IsTree (λ g t is. is.tree) (tree_graphs ranked trees) trees exact_trees)
 
   -- A proof that stands in a row.
   pub record IsPlaced (proof : ProofClaim) : Type 0 where
@@ -165,10 +170,10 @@ module _ (tasks : List Task) (order : List ℕ) (order_is : IsOrder tasks order)
     place_most : placed.place ≤ last
     place_most = omega (arith, place_low)
 
-    split_graphs : first_graphs tasks order placed.place ++ drop placed.place (tree_graphs tasks trees) ≡ tree_graphs tasks trees
-    split_graphs = ap (λ gs. gs ++ drop placed.place (tree_graphs tasks trees)) (graphs_first placed.place place_most) ∙ take-append-drop placed.place (tree_graphs tasks trees)
+    split_graphs : first_graphs tasks order placed.place ++ drop placed.place (tree_graphs ranked trees) ≡ tree_graphs ranked trees
+    split_graphs = ap (λ gs. gs ++ drop placed.place (tree_graphs ranked trees)) (graphs_first placed.place place_most) ∙ take-append-drop placed.place (tree_graphs ranked trees)
 
-    times_all : All (HasPassingTime (tree_graphs tasks trees) trees (graph_at tasks placed.task) p.vertex) (passes trees p.items (Some (opening_stack trees placed.place)))
+    times_all : All (HasPassingTime (tree_graphs ranked trees) trees (graph_at tasks placed.task) p.vertex) (passes trees p.items (Some (opening_stack trees placed.place)))
     times_all =
         let i : ℕ = placed.place in
         let g : Digraph = graph_at tasks placed.task in
@@ -178,19 +183,19 @@ module _ (tasks : List Task) (order : List ℕ) (order_is : IsOrder tasks order)
         let b : length (first_graphs tasks order i) ≡ i = length-take-le i (map (graph_at tasks) order) (omega (arith, place_low, length-map order (graph_at tasks))) in
         let c : length (map root front) ≡ length front = length-map front root in
         let narrow = passes_narrow i front p.items (Some (opening_stack trees i)) (omega (arith, a, c), tt) in
-        let more : All (HasPassingTime (first_graphs tasks order i ++ drop i (tree_graphs tasks trees)) (front ++ back) g p.vertex) (passes front p.items (Some (opening_stack trees i)))
-        = passed_more (first_graphs tasks order i) (drop i (tree_graphs tasks trees)) front back i b a g p.vertex (passes front p.items (Some (opening_stack trees i))) narrow times_first in
+        let more : All (HasPassingTime (first_graphs tasks order i ++ drop i (tree_graphs ranked trees)) (front ++ back) g p.vertex) (passes front p.items (Some (opening_stack trees i)))
+        = passed_more (first_graphs tasks order i) (drop i (tree_graphs ranked trees)) front back i b a g p.vertex (passes front p.items (Some (opening_stack trees i))) narrow times_first in
         let same : passes (front ++ back) p.items (Some (opening_stack trees i)) ≡ passes front p.items (Some (opening_stack trees i)) = passes_more front back p.items
         (opening_stack trees i) [] shape_first in
-        let moved : All (HasPassingTime (tree_graphs tasks trees) (front ++ back) g p.vertex) (passes (front ++ back) p.items (Some (opening_stack trees i)))
-        = subst (λ ats. All (HasPassingTime (tree_graphs tasks trees) (front ++ back) g p.vertex) ats) (sym same)
+        let moved : All (HasPassingTime (tree_graphs ranked trees) (front ++ back) g p.vertex) (passes (front ++ back) p.items (Some (opening_stack trees i)))
+        = subst (λ ats. All (HasPassingTime (tree_graphs ranked trees) (front ++ back) g p.vertex) ats) (sym same)
         (subst (λ gs. All (HasPassingTime gs (front ++ back) g p.vertex) (passes front p.items (Some (opening_stack trees i)))) split_graphs more) in
-        subst (λ ts. All (HasPassingTime (tree_graphs tasks trees) ts g p.vertex) (passes ts p.items (Some (opening_stack trees i)))) (take-append-drop i trees) moved
+        subst (λ ts. All (HasPassingTime (tree_graphs ranked trees) ts g p.vertex) (passes ts p.items (Some (opening_stack trees i)))) (take-append-drop i trees) moved
 
     -- And they pass over all trees.
-    pub has_times : All (HasPassingTime (tree_graphs tasks trees) trees (digraph_of t) p.vertex) (passes trees p.items (Some (opening_stack trees (higher_count tasks t.priority))))
-    has_times = subst (λ n. All (HasPassingTime (tree_graphs tasks trees) trees (digraph_of t) p.vertex) (passes trees p.items (Some (opening_stack trees n)))) higher_is
-        (subst (λ g. All (HasPassingTime (tree_graphs tasks trees) trees g p.vertex) (passes trees p.items (Some (opening_stack trees placed.place)))) graph_is times_all)
+    pub has_times : All (HasPassingTime (tree_graphs ranked trees) trees (digraph_of t) p.vertex) (passes trees p.items (Some (opening_stack trees (higher_count tasks t.priority))))
+    has_times = subst (λ n. All (HasPassingTime (tree_graphs ranked trees) trees (digraph_of t) p.vertex) (passes trees p.items (Some (opening_stack trees n)))) higher_is
+        (subst (λ g. All (HasPassingTime (tree_graphs ranked trees) trees g p.vertex) (passes trees p.items (Some (opening_stack trees placed.place)))) graph_is times_all)
 
     -- The items are due one after another over the trees of the tasks of higher priority.
     due_first : AreEagerItems (first_graphs tasks order placed.place) (take placed.place trees) (graph_at tasks placed.task) p.vertex p.items (Some (opening_stack trees placed.place))
@@ -199,7 +204,7 @@ module _ (tasks : List Task) (order : List ℕ) (order_is : IsOrder tasks order)
         items_due (greatest_deadline tasks) is.forest is.forest_is (first_graphs tasks order placed.place) is.lows is.roots (take placed.place trees) is.claimed
         (take_trees placed.place) (graph_at tasks placed.task) p.vertex near p.items is.items_are
 
-    due_all : AreEagerItems (tree_graphs tasks trees) trees (graph_at tasks placed.task) p.vertex p.items (Some (opening_stack trees placed.place))
+    due_all : AreEagerItems (tree_graphs ranked trees) trees (graph_at tasks placed.task) p.vertex p.items (Some (opening_stack trees placed.place))
     due_all =
         let i : ℕ = placed.place in
         let g : Digraph = graph_at tasks placed.task in
@@ -208,15 +213,15 @@ module _ (tasks : List Task) (order : List ℕ) (order_is : IsOrder tasks order)
         let a : length front ≡ i = length-take-le i trees (omega (arith, place_most, count_trees)) in
         let b : length (first_graphs tasks order i) ≡ i = length-take-le i (map (graph_at tasks) order) (omega (arith, place_low, length-map order (graph_at tasks))) in
         let c : length (map root front) ≡ length front = length-map front root in
-        let more : AreEagerItems (first_graphs tasks order i ++ drop i (tree_graphs tasks trees)) (front ++ back) g p.vertex p.items (Some (opening_stack trees i))
-        = due_more (first_graphs tasks order i) (drop i (tree_graphs tasks trees)) front back i b a g p.vertex p.items (opening_stack trees i) (omega (arith, a, c), tt) due_first in
-        subst (λ ts. AreEagerItems (tree_graphs tasks trees) ts g p.vertex p.items (Some (opening_stack trees i))) (take-append-drop i trees)
+        let more : AreEagerItems (first_graphs tasks order i ++ drop i (tree_graphs ranked trees)) (front ++ back) g p.vertex p.items (Some (opening_stack trees i))
+        = due_more (first_graphs tasks order i) (drop i (tree_graphs ranked trees)) front back i b a g p.vertex p.items (opening_stack trees i) (omega (arith, a, c), tt) due_first in
+        subst (λ ts. AreEagerItems (tree_graphs ranked trees) ts g p.vertex p.items (Some (opening_stack trees i))) (take-append-drop i trees)
         (subst (λ gs. AreEagerItems gs (front ++ back) g p.vertex p.items (Some (opening_stack trees i))) split_graphs more)
 
     -- And they are due over all trees.
-    pub is_due : AreEagerItems (tree_graphs tasks trees) trees (digraph_of t) p.vertex p.items (Some (opening_stack trees (higher_count tasks t.priority)))
-    is_due = subst (λ n. AreEagerItems (tree_graphs tasks trees) trees (digraph_of t) p.vertex p.items (Some (opening_stack trees n))) higher_is
-        (subst (λ g. AreEagerItems (tree_graphs tasks trees) trees g p.vertex p.items (Some (opening_stack trees placed.place))) graph_is due_all)
+    pub is_due : AreEagerItems (tree_graphs ranked trees) trees (digraph_of t) p.vertex p.items (Some (opening_stack trees (higher_count tasks t.priority)))
+    is_due = subst (λ n. AreEagerItems (tree_graphs ranked trees) trees (digraph_of t) p.vertex p.items (Some (opening_stack trees n))) higher_is
+        (subst (λ g. AreEagerItems (tree_graphs ranked trees) trees g p.vertex p.items (Some (opening_stack trees placed.place))) graph_is due_all)
 
   module _ (rows : List (List ProofClaim)) (proved : AreProved tasks order (length order) trees rows) where
     row_at : (k : ℕ) → k < length tasks → (i : ℕ) × (slice_get order i ≡ Some k) × AreProofsAt tasks order i k trees (get_or rows k [])
@@ -260,19 +265,21 @@ module _ (tasks : List Task) (order : List ℕ) (order_is : IsOrder tasks order)
     pub is_yes : (constrained : AreConstrained tasks) → TimesDecide → IsExactTreeYes (record { version = version; tasks = tasks }) trees (flat_map (λ x. x) rows)
     is_yes constrained decide = record {
       schedulable = all_pass decide constrained;
-      accepted = fixed_yes_accepted (record { version = version; tasks = tasks }) trees (flat_map (λ x. x) rows) constrained (record {
+      accepted = fixed_yes_accepted (record { version = version; tasks = tasks }) ranked trees (flat_map (λ x. x) rows) constrained (order_sorts tasks order order_is) (record {
         trees_are = record {
           per_task = omega (arith, count_trees, whole, order_count tasks order order_is);
-          short = each_weaker (IsTreeOf (greatest_deadline tasks)) (HasShortWalks (greatest_deadline tasks)) (λ g t is. is.short) (tree_graphs tasks trees) trees exact_trees;
-          covers = each_weaker (IsTreeOf (greatest_deadline tasks)) (CoversWalks (greatest_deadline tasks)) (λ g t is. is.covers) (tree_graphs tasks trees) trees exact_trees;
-          shapes = each_second (IsTreeOf (greatest_deadline tasks)) IsTree (λ g t is. is.tree) (tree_graphs tasks trees) trees exact_trees;
+          short = each_weaker (IsTreeOf (greatest_deadline tasks)) (HasShortWalks (greatest_deadline tasks)) (λ g t is. is.short) (tree_graphs ranked trees) trees exact_trees;
+          covers = each_weaker (IsTreeOf (greatest_deadline tasks)) (CoversWalks (greatest_deadline tasks)) (λ g t is. is.covers) (tree_graphs ranked trees) trees exact_trees;
+          shapes = each_second (IsTreeOf (greatest_deadline tasks)) IsTree (λ g t is. is.tree) (tree_graphs ranked trees) trees exact_trees;
         };
         per_vertex = all_subjects;
         shapes = All-weaker IsPlaced (HasShape tasks trees) (λ p placed t here. has_shape p placed t here) (flat_map (λ x. x) rows) all_placed;
-        times = All-weaker IsPlaced (HasPassingTimes tasks (tree_graphs tasks trees) trees) (λ p placed t here. has_times p placed t here) (flat_map (λ x. x) rows) all_placed;
+        times = All-weaker IsPlaced (HasPassingTimes tasks (tree_graphs ranked trees) trees) (λ p placed t here. has_times p placed t here) (flat_map (λ x. x) rows) all_placed;
       });
+      sorted = ranked;
+      in_order = order_sorts tasks order order_is;
       exact = exact_trees;
-      eager = All-weaker IsPlaced (IsEagerProof tasks trees) (λ p placed t here. is_due p placed t here) (flat_map (λ x. x) rows) all_placed;
+      eager = All-weaker IsPlaced (IsEagerProof tasks (tree_graphs ranked trees) trees) (λ p placed t here. is_due p placed t here) (flat_map (λ x. x) rows) all_placed;
     }
 
     pub is_in_range : IsEvidenceInRange (FixedYes trees (flat_map (λ x. x) rows))

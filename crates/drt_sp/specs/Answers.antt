@@ -22,7 +22,7 @@ use Rattle.drt_sp.specs.ChoiceLaws.{IsPosed, no_releases}
 use Rattle.drt_model.specs.Each.{Each}
 use Rattle.drt_claims.specs.Ranges.{IsEvidenceInRange}
 use Rattle.drt_claims.specs.Rules.{Accepts}
-use Rattle.drt_claims.specs.Trees.{greatest_deadline, tree_graphs}
+use Rattle.drt_claims.specs.Trees.{AreByPriority, greatest_deadline, tree_graphs}
 use Rattle.drt_claims.specs.declared.evidence.Evidence.{Evidence}
 use Rattle.drt_claims.specs.declared.evidence.Evidence.TheVariants.{EdfYes, EdfNo, UtilisationOne, FixedYes, FixedStates, FixedNo, Undecided}
 use Rattle.drt_claims.specs.declared.evidence.ProofClaim.{ProofClaim}
@@ -44,12 +44,15 @@ abbrev pub HigherMeetDeadlines : List Task → ℕ → Type 0
 HigherMeetDeadlines tasks k = (i : ℕ) → i < length tasks → (task_at tasks i).priority < (task_at tasks k).priority → MeetsDeadlines tasks i
 
 -- A yes: the set is schedulable, the evidence is accepted, each tree has exactly the labels of walks that no other one dominates, and each
--- proof passes with the least time, or splits where no time passes, at the node with the most walks below it.
+-- proof passes with the least time, or splits where no time passes, at the node with the most walks below it. The trees are those of the
+-- tasks in order of priority.
 pub record IsExactTreeYes (set : Contents) (trees : List TreeClaim) (proofs : List ProofClaim) : Type 0 where
   pub schedulable : Schedulable set.tasks Fixed
   pub accepted : Accepts (under_fixed set (FixedYes trees proofs))
-  pub exact : Each (IsTreeOf (greatest_deadline set.tasks)) (tree_graphs set.tasks trees) trees
-  pub eager : All (IsEagerProof set.tasks trees) proofs
+  pub sorted : List Task
+  pub in_order : AreByPriority set.tasks sorted
+  pub exact : Each (IsTreeOf (greatest_deadline set.tasks)) (tree_graphs sorted trees) trees
+  pub eager : All (IsEagerProof set.tasks (tree_graphs sorted trees) trees) proofs
 
 -- The forest's trees with these roots are the halved ones over the exact walks of the tasks at the first places of the order.
 pub record AreExactTrees (tasks : List Task) (order : List ℕ) (f : Plain) (roots : List ℕ) : Type 0 where

@@ -7,7 +7,7 @@ use Rattle.drt_model.specs.Digraph.{Digraph, digraph_of}
 use Rattle.drt_tree.specs.Leaf.{is_leaf_before}
 use Rattle.drt_tree.specs.declared.leaf.Leaf.{Leaf}
 use Rattle.drt_claims.specs.Proofs.{HasPassingTime, after, opening_stack}
-use Rattle.drt_claims.specs.Trees.{higher_count, root, tree_graphs}
+use Rattle.drt_claims.specs.Trees.{higher_count, root}
 use Rattle.drt_claims.specs.declared.evidence.Item.{Item}
 use Rattle.drt_claims.specs.declared.evidence.Item.TheVariants.{Pass, Split}
 use Rattle.drt_claims.specs.declared.evidence.Pair.{Pair}
@@ -77,7 +77,7 @@ module _ (graphs : List Digraph) (trees : List TreeClaim) (g : Digraph) (v : ℕ
 
 -- The items of a proof are due one after another, from the roots of the trees of the tasks of higher priority on: each passes with the least
 -- time that passes, or splits a combination for which none does, at the node with the most walks below it.
-abbrev pub IsEagerProof : List Task → List TreeClaim → ProofClaim → Type 0
-IsEagerProof tasks trees proof =
+abbrev pub IsEagerProof : List Task → List Digraph → List TreeClaim → ProofClaim → Type 0
+IsEagerProof tasks graphs trees proof =
     (t : Task) → slice_get tasks proof.task ≡ Some t
-    → AreEagerItems (tree_graphs tasks trees) trees (digraph_of t) proof.vertex proof.items (Some (opening_stack trees (higher_count tasks t.priority)))
+    → AreEagerItems graphs trees (digraph_of t) proof.vertex proof.items (Some (opening_stack trees (higher_count tasks t.priority)))

@@ -1,11 +1,13 @@
 -- Where a worked proof splits: at the node with the most walks below it, and not at the last pair.
 use Rattle.std.proofs.Common.{◌≡◌, ℕ, zero, suc, ◌<◌, ◌≤◌, List, [], ◌∷◌, Some, codes, refl, subst, lit<, lit≤, arith}
+use Rattle.std.specs.Prelude.{AllPairs}
+use Rattle.std.proofs.lemmas.List.Sorted.{IsPermutation-refl}
 use Rattle.std.proofs.lemmas.Option.{same_Some}
 use Rattle.drt_model.specs.declared.tasks.Task.{Task}
 use Rattle.drt_model.specs.Digraph.{Digraph, digraph_of}
 use Rattle.drt_model.specs.Walk.{sep_in, or_zero, requested_from}
 use Rattle.drt_claims.specs.Proofs.{HasPassingTime, after_all, opening_stack, tree_sum_at}
-use Rattle.drt_claims.specs.Trees.{by_priority, higher_count, joined, placed, tree_graphs}
+use Rattle.drt_claims.specs.Trees.{AreByPriority, higher_count, joined, tree_graphs}
 use Rattle.drt_claims.specs.declared.evidence.Item.{Item}
 use Rattle.drt_claims.specs.declared.evidence.Item.TheVariants.{Pass, Split}
 use Rattle.drt_claims.specs.declared.evidence.Pair.{Pair}
@@ -46,8 +48,20 @@ trees = high_tree ∷ mid_tree ∷ []
 abbrev graphs : List Digraph
 graphs = digraph_of high ∷ digraph_of mid ∷ []
 
+-- They are in order of priority, and the first two have trees.
+pub in_order : AreByPriority tasks tasks
+in_order = record { permutation = IsPermutation-refl tasks; rising = rising }
+  where
+    rising : AllPairs (λ s t. s.priority < t.priority) tasks
+    rising i zero d l m = absurd (omega (arith, l))
+    rising zero (suc zero) d l m = lit< tt
+    rising (suc i) (suc zero) d l m = absurd (omega (arith, l))
+    rising zero (suc (suc zero)) d l m = lit< tt
+    rising (suc zero) (suc (suc zero)) d l m = lit< tt
+    rising (suc (suc i)) (suc (suc zero)) d l m = absurd (omega (arith, l))
+    rising i (suc (suc (suc j))) d l m = absurd (omega (arith, m))
+
 pub graphs_are : tree_graphs tasks trees ≡ graphs
-unfolding by_priority placed
 graphs_are = refl
 
 -- One walk below each walk, and below a pair as many as below both its parts.
@@ -138,12 +152,10 @@ unfolding AreEagerItems
 last_split_is_not_due items d = last_is_not_widest d.0.1
 
 -- So the first of the two is the proof that a yes may have, and the second isn't.
-pub first_split_is_eager : IsEagerProof tasks trees (z_proof (Split 0 ∷ Pass 5 ∷ Pass 4 ∷ []))
-unfolding by_priority placed
+pub first_split_is_eager : IsEagerProof tasks graphs trees (z_proof (Split 0 ∷ Pass 5 ∷ Pass 4 ∷ []))
 first_split_is_eager t at =
     subst (λ (u : Task). AreEagerItems graphs trees (digraph_of u) 0 (Split 0 ∷ Pass 5 ∷ Pass 4 ∷ []) (Some (opening_stack trees (higher_count tasks u.priority))))
     (same_Some low t at) first_split_is_due
 
-pub last_split_is_not_eager : ¬ IsEagerProof tasks trees (z_proof last_first)
-unfolding by_priority placed
+pub last_split_is_not_eager : ¬ IsEagerProof tasks graphs trees (z_proof last_first)
 last_split_is_not_eager e = last_split_is_not_due (Split 0 ∷ Pass 5 ∷ Pass 4 ∷ Split 0 ∷ Pass 5 ∷ Pass 4 ∷ []) (e low refl)

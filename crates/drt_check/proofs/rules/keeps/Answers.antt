@@ -3,11 +3,13 @@ use Rattle.drt_claims.specs.Claims.{graphs_of}
 use Rattle.drt_claims.specs.Fronts.{HasOpenings, IsClosedFront}
 use Rattle.drt_claims.specs.Kinds.{fronts_of, ratios_of}
 use Rattle.drt_claims.specs.Statement.{Statement}
+use Rattle.drt_claims.specs.Trees.{CoversWalks, HasShortWalks}
 use Rattle.drt_claims.specs.declared.rule.Rule.TheVariants.{LowestTerms, PotentialPerVertex, FittingPotentials, ClosedCycles, TightCycles, NearHorizon}
 use Rattle.drt_claims.specs.declared.rule.Rule.TheVariants.{OrderedFronts, CoveredOpenings, CoveredExtensions, Room}
 use Rattle.drt_claims.specs.declared.rule.Rule.TheVariants.{TreePerHigherTask, ShortWalks, TreeShapes, ProofShapes}
 use Rattle.drt_check.specs.Deciding.{IsNextRule}
 use Rattle.drt_check.proofs.Rows.{counted, decides, decides_at, decides_order, given, in_order, near}
+use Rattle.drt_check.proofs.Sorted.{OfTimes, OfTrees, decides_sorted, finds_sorted, of_sorted}
 use Rattle.drt_check.proofs.rules.keeps.Goals as goal
 use Rattle.drt_model.specs.Each.{Each}
 
@@ -110,7 +112,7 @@ pub cover_walks-requires-clause-short : goal.cover_walks-requires-clause-short
 cover_walks-requires-clause-short c =
     let next = subst (λ r. IsNextRule c.args.dossier.now r) c.in-CoveredWalks.is c.requires.next in
     let set = ap (λ (s : Statement). s.set) c.dossier.view_is in
-    rw (set, c.trees_of-trees.ensures.value) (next.before ShortWalks next.applies (omega arith))
+    rw (set, c.trees_of-trees.ensures.value) (of_sorted c.args.dossier.now (OfTrees c.args.dossier.now HasShortWalks) (next.before ShortWalks next.applies (omega arith)))
 
 pub have_passing_times-requires-clause-per_task : goal.have_passing_times-requires-clause-per_task
 have_passing_times-requires-clause-per_task c =
@@ -122,7 +124,7 @@ pub have_passing_times-requires-clause-walks : goal.have_passing_times-requires-
 have_passing_times-requires-clause-walks c =
     let next = subst (λ r. IsNextRule c.args.dossier.now r) c.in-PassingTimes.is c.requires.next in
     let set = ap (λ (s : Statement). s.set) c.dossier.view_is in
-    rw (set, c.trees_of-trees.ensures.value) (next.before ShortWalks next.applies (omega arith))
+    rw (set, c.trees_of-trees.ensures.value) (of_sorted c.args.dossier.now (OfTrees c.args.dossier.now HasShortWalks) (next.before ShortWalks next.applies (omega arith)))
 
 pub have_passing_times-requires-clause-trees : goal.have_passing_times-requires-clause-trees
 have_passing_times-requires-clause-trees c =
@@ -190,6 +192,21 @@ returns-in-CoveredExtensions-clause-decided c =
     (decides_at (graphs_of d.set.tasks) (ratios_of d.evidence) c.near_horizon-in-CoveredExtensions.result is
     (λ n. Each (IsClosedFront n) (graphs_of d.set.tasks) (fronts_of d.evidence)) c.are_closed.result each)
 
+pub returns-in-ShortWalks-clause-decided : goal.returns-in-ShortWalks-clause-decided
+returns-in-ShortWalks-clause-decided c =
+    let d = c.args.dossier.now in
+    let set = ap (λ (s : Statement). s.set) c.dossier.view_is in
+    let found = rw (set, c.trees_of-trees.ensures.value) at c.have_short_walks.ensures in
+    decides d c.args.rule ShortWalks c.have_short_walks.result c.in-ShortWalks.is
+    (decides_sorted d (OfTrees d HasShortWalks) c.requires.known.distinct c.have_short_walks.result found)
+
+pub returns-in-CoveredWalks-clause-decided : goal.returns-in-CoveredWalks-clause-decided
+returns-in-CoveredWalks-clause-decided c =
+    let d = c.args.dossier.now in
+    let set = ap (λ (s : Statement). s.set) c.dossier.view_is in
+    let found = rw (set, c.trees_of-trees.ensures.value) at c.cover_walks.ensures in
+    rw c.in-CoveredWalks.is (finds_sorted d (OfTrees d CoversWalks) c.requires.known.distinct c.cover_walks.result found)
+
 pub returns-in-TreeShapes-clause-decided : goal.returns-in-TreeShapes-clause-decided
 returns-in-TreeShapes-clause-decided c = rw c.in-TreeShapes.is (rw c.trees_of-trees.ensures.value at c.are_trees.ensures)
 
@@ -200,5 +217,7 @@ returns-in-ProofShapes-clause-decided c =
 
 pub returns-in-PassingTimes-clause-decided : goal.returns-in-PassingTimes-clause-decided
 returns-in-PassingTimes-clause-decided c =
+    let d = c.args.dossier.now in
     let set = ap (λ (s : Statement). s.set) c.dossier.view_is in
-    rw c.in-PassingTimes.is (rw (set, c.trees_of-trees.ensures.value, c.proofs_of-proofs.ensures.value) at c.have_passing_times.ensures)
+    let found = rw (set, c.trees_of-trees.ensures.value, c.proofs_of-proofs.ensures.value) at c.have_passing_times.ensures in
+    rw c.in-PassingTimes.is (finds_sorted d (OfTimes d) c.requires.known.distinct c.have_passing_times.result found)

@@ -5,7 +5,7 @@ use Rattle.std.proofs.lemmas.Bool.{both_ways, false≢true}
 use Rattle.std.proofs.lemmas.List.Elements.{All-from_recursion, recursion_from_All}
 use Rattle.drt_model.specs.declared.tasks.Task.{Task}
 use Rattle.drt_claims.specs.Proofs.{HasPassingTimes}
-use Rattle.drt_claims.specs.Trees.{tree_graphs}
+use Rattle.drt_claims.specs.Sorting.{sorted_graphs}
 use Rattle.drt_check_proofs.specs.Points.{IsPoint, IsTimely, marks, points, room}
 use Rattle.drt_check_proofs.proofs.Asking.{ok_then, ready_is}
 use Rattle.drt_check_proofs.proofs.PointLaws.{marks_points, passing_points}
@@ -17,7 +17,7 @@ returns-then-not-branch c =
     let tasks = c.args.set.now.tasks in
     let trees = c.args.trees.now in
     let proofs = c.args.proofs.now in
-    let graphs = tree_graphs tasks trees in (
+    let graphs = sorted_graphs tasks trees in (
       λ e. absurd (false≢true e),
       λ all. (
           let passing = (passing_points tasks graphs trees proofs).0 (recursion_from_All (HasPassingTimes tasks graphs trees) proofs all) in
@@ -36,7 +36,7 @@ take_places-requires-clause-rooms c =
     let ready = ready_is c.args.set.now.version tasks trees proofs c.requires.proofs c.tasks.ensures.limits.each timely in
     let made : c.add_rooms.new.rooms.items ≡ map room (marks c.tasks.result.now proofs) =
     c.in_ok-add_rooms.ensures.rooms yes ∙ ap (λ xs. xs ++ map room (marks c.tasks.result.now proofs)) c.in_ok-rooms.ensures.items in
-    rooms_first (tree_graphs tasks trees) trees (points tasks trees proofs) c.as_mut_slice.result.now ready
+    rooms_first (sorted_graphs tasks trees) trees (points tasks trees proofs) c.as_mut_slice.result.now ready
     (c.as_mut_slice.ensures.value ∙ (made ∙ (ap (λ (ts : List Task). map room (marks ts proofs)) c.tasks.ensures.tasks ∙ ap (map room) (marks_points tasks trees proofs c.requires.proofs))))
 
 pub returns : goal.returns
@@ -44,7 +44,7 @@ returns c =
     let tasks = c.args.set.now.tasks in
     let trees = c.args.trees.now in
     let proofs = c.args.proofs.now in
-    let graphs = tree_graphs tasks trees in
+    let graphs = sorted_graphs tasks trees in
     let both = passing_points tasks graphs trees proofs in
     ok_then c.take_places.result (λ have. IsTrue have ↔ AllByRecursion (IsPoint graphs trees) (points tasks trees proofs)) (λ have. IsTrue have ↔ All (HasPassingTimes tasks graphs trees) proofs)
     (λ have decides. (

@@ -2,7 +2,8 @@ use Rattle.std.proofs.Common.{◌≡◌, length, refl, sym, subst, ◌∙◌, ar
 use Rattle.std.specs.Prelude.{Some, slice_get}
 use Rattle.std.proofs.lemmas.Bool.{both_ways, false≢true}
 use Rattle.std.proofs.lemmas.Option.{slice_get_read}
-use Rattle.drt_claims.specs.Trees.{HasShortWalks, greatest_deadline, tree_graphs}
+use Rattle.drt_claims.specs.Trees.{HasShortWalks, greatest_deadline}
+use Rattle.drt_claims.specs.Sorting.{sorted_graphs}
 use Rattle.drt_check_proofs.specs.Points.{points}
 use Rattle.drt_check_proofs.proofs.Asking.{as_many, asked_is, graphs_few, ready_is, tree_is}
 use Rattle.drt_check_proofs.proofs.RoomLaws.{each_at, rooms_last, rooms_more, values_fit}
@@ -16,7 +17,7 @@ take_values-requires-clause-short c =
     let tree = c.index-trees-i.result in
     let g = c.tree_graph-graph.result.now in
     let at : slice_get trees c.places.i ≡ Some tree = slice_get_read trees (length trees) c.places.i tree refl c.places-test.true c.index-trees-i.is in
-    let short = each_at (HasShortWalks (greatest_deadline tasks)) (tree_graphs tasks trees) trees c.places.i g tree c.requires.walks c.tree_graph-graph.ensures.graph at in
+    let short = each_at (HasShortWalks (greatest_deadline tasks)) (sorted_graphs tasks trees) trees c.places.i g tree c.requires.walks c.tree_graph-graph.ensures.graph at in
     subst (λ b. HasShortWalks b g tree) (sym c.greatest_deadline-bound.ensures.value) short
 
 pub take_values-requires-clause-nodes : goal.take_values-requires-clause-nodes
@@ -48,7 +49,7 @@ returns-then-not-branch c =
     c.tasks-tasks.ensures.tasks at c.requires.proofs in
     let is = tree_is trees c.places.i tree c.requires.trees c.places-test.true c.index-trees-i.is in
     let ready = ready_is c.args.set.now.version tasks trees proofs c.requires.proofs c.tasks-tasks.ensures.limits.each c.requires.timely in
-    let fit = values_fit (tree_graphs tasks trees) trees c.places.i g tree (points tasks trees proofs) c.as_slice.result.now c.places.rooms
+    let fit = values_fit (sorted_graphs tasks trees) trees c.places.i g tree (points tasks trees proofs) c.as_slice.result.now c.places.rooms
     c.tree_graph-graph.ensures.graph at is ready asked c.places.invariant in
     (λ e. absurd (false≢true e), λ all. absurd (both_ways c.in_ok-take_values.field-0 c.if-not-branch.true (c.in_ok-take_values.ensures.fits.1 (fit all))))
 
@@ -64,7 +65,7 @@ places-preserved c =
     c.tasks-tasks.ensures.tasks at c.requires.proofs in
     let is = tree_is trees c.places.i tree c.requires.trees c.places-test.true c.index-trees-i.is in
     let ready = ready_is c.args.set.now.version tasks trees proofs c.requires.proofs c.tasks-tasks.ensures.limits.each c.requires.timely in
-    rooms_more (tree_graphs tasks trees) trees c.places.i g tree (points tasks trees proofs) c.as_slice.result.now c.places.rooms c.take_values.new.rooms
+    rooms_more (sorted_graphs tasks trees) trees c.places.i g tree (points tasks trees proofs) c.as_slice.result.now c.places.rooms c.take_values.new.rooms
     c.tree_graph-graph.ensures.graph at is ready asked c.places.invariant c.take_values.ensures.count (c.in_ok-take_values.ensures.left c.if-not-branch.false)
 
 pub returns : goal.returns
@@ -74,4 +75,4 @@ returns c =
     let proofs = c.args.proofs.now in
     let ready = ready_is c.args.set.now.version tasks trees proofs c.requires.proofs c.tasks-tasks.ensures.limits.each c.requires.timely in
     let few = graphs_few tasks trees c.places.i c.places-test.false in
-    (λ e. rooms_last (tree_graphs tasks trees) trees c.places.i (points tasks trees proofs) c.places.rooms few ready c.places.invariant, λ all. refl)
+    (λ e. rooms_last (sorted_graphs tasks trees) trees c.places.i (points tasks trees proofs) c.places.rooms few ready c.places.invariant, λ all. refl)

@@ -4,7 +4,7 @@ use Rattle.std.proofs.lemmas.List.Elements.{All-take}
 use Rattle.drt_model.specs.Digraph.{digraph_of}
 use Rattle.drt_model.specs.Walk.{deadline, wcet}
 use Rattle.drt_model.specs.declared.tasks.Task.{Task}
-use Rattle.drt_claims.specs.Searches.{places_of}
+use Rattle.drt_claims.specs.Sorting.{sorted_places}
 use Rattle.drt_states.specs.Tails.{IsTail, Place}
 use Rattle.drt_states.specs.declared.claims.TailClaim.{TailClaim}
 use Rattle.drt_check_states.specs.Crests.{IsCrest}
@@ -22,7 +22,7 @@ enough c =
     let k : ℕ = c.args.search.now.task in
     let l : k < length tasks = omega (arith, c.if-search-tasks.false, ap length c.tasks-tasks.ensures.tasks) in
     let few = count_few tasks c.tasks-tasks.result.now k c.index-tasks-search.result c.tasks-tasks.ensures.tasks l c.index-tasks-search.is c.higher_count-count.result c.higher_count-count.ensures in
-    let long = zip_long (λ (p : Place) (tail : TailClaim). IsTail p.bound p.graph tail) (places_of tasks) c.args.tails.now c.requires.tails in
+    let long = zip_long (λ (p : Place) (tail : TailClaim). IsTail p.bound p.graph tail) (sorted_places tasks) c.args.tails.now c.requires.tails in
     omega (arith, few, long, places_long tasks)
 
 pub slice_bounds-have_passing_times-end : goal.slice_bounds-have_passing_times-end
@@ -35,7 +35,7 @@ slice_bounds-have_passing_times-end-2 c =
 
 pub have_passing_times-requires-clause-rising : goal.have_passing_times-requires-clause-rising
 have_passing_times-requires-clause-rising c =
-    All-take HasRisingCurves c.higher_count-count.result c.args.tails.now (tails_rise (places_of c.args.set.now.tasks) c.args.tails.now c.requires.tails)
+    All-take HasRisingCurves c.higher_count-count.result c.args.tails.now (tails_rise (sorted_places c.args.set.now.tasks) c.args.tails.now c.requires.tails)
 
 pub have_passing_times-requires-clause-crests : goal.have_passing_times-requires-clause-crests
 have_passing_times-requires-clause-crests c = zip_take IsCrest c.args.tails.now c.args.crests.now c.higher_count-count.result c.requires.crests

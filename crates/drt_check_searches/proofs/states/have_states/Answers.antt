@@ -1,5 +1,6 @@
 use Rattle.std.proofs.Common.{arith, refl}
 use Rattle.drt_claims.specs.Searches.{HasStatesOver}
+use Rattle.drt_claims.specs.Sorting.{by_priority}
 use Rattle.drt_check_states.proofs.Items.{all_more, all_not}
 use Rattle.drt_check_searches.proofs.states.have_states.Goals as goal
 
@@ -7,13 +8,13 @@ pub returns-then-not-has_states : goal.returns-then-not-has_states
 returns-then-not-has_states c = (
   λ e. absurd (cc),
   λ all. absurd (
-      all_not (HasStatesOver c.args.set.now.tasks) c.args.searches.now c.loop-i.i c.index-searches-i.result c.loop-i-test.true c.index-searches-i.is (λ is. let e = c.has_states.ensures.1 is in cc) all
+      all_not (HasStatesOver c.args.set.now.tasks (by_priority c.args.set.now.tasks)) c.args.searches.now c.loop-i.i c.index-searches-i.result c.loop-i-test.true c.index-searches-i.is (λ is. let e = c.has_states.ensures.1 is in cc) all
       ),
 )
 
 pub loop-i-preserved : goal.loop-i-preserved
 loop-i-preserved c =
-    all_more (HasStatesOver c.args.set.now.tasks) c.args.searches.now c.loop-i.i c.index-searches-i.result c.loop-i-test.true c.index-searches-i.is (c.has_states.ensures.0 c.if-not-has_states.false)
+    all_more (HasStatesOver c.args.set.now.tasks (by_priority c.args.set.now.tasks)) c.args.searches.now c.loop-i.i c.index-searches-i.result c.loop-i-test.true c.index-searches-i.is (c.has_states.ensures.0 c.if-not-has_states.false)
     c.loop-i.invariant
 
 pub returns : goal.returns

@@ -1,8 +1,9 @@
 -- The searches so far have states over the tasks of higher priority.
 use Rattle.std.proofs.Common.{ℕ, ◌<◌, get_or}
 use Rattle.drt_claims.specs.Searches.{HasStatesOver}
+use Rattle.drt_claims.specs.Sorting.{by_priority}
 use Rattle.drt_states.specs.declared.claims.SearchClaim.{SearchClaim}
 use Rattle.drt_check_searches.proofs.states.have_states.Given as goal
 
 abbrev pub invariant-loop-i : goal.invariant-loop-i
-invariant-loop-i l = (k : ℕ) (d : SearchClaim) → k < l.i → HasStatesOver l.set.tasks (get_or l.searches k d)
+invariant-loop-i l = (k : ℕ) (d : SearchClaim) → k < l.i → HasStatesOver l.set.tasks (by_priority l.set.tasks) (get_or l.searches k d)

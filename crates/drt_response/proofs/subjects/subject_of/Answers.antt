@@ -7,7 +7,6 @@ use Rattle.drt_model.specs.Digraph.{vertex_count, vertex_of}
 use Rattle.drt_graph.specs.Graphs.{graph_of}
 use Rattle.drt_busy.specs.Choice.{graph_at, no_task, task_at}
 use Rattle.drt_releases.proofs.Walks.{graph_same}
-use Rattle.drt_claims.specs.Searches.{places_of}
 use Rattle.drt_claims.specs.Trees.{higher_count}
 use Rattle.drt_fixed.proofs.Prefixes.{zip_take}
 use Rattle.drt_check_states.specs.Crests.{IsCrest}
