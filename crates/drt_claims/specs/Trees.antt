@@ -1,6 +1,6 @@
 -- Claimed trees: for each task but the one of lowest priority, walks whose request functions are to stand for those of all its
 -- walks, and pairs that join them by greatest values.
-use Rattle.std.specs.Prelude.{◌≡◌, ℕ, ◌+◌, ◌-◌, ◌≤◌, ◌<◌, ◌⊎◌, ◌==◌, max, nat_lt, All, AllPairs, Any, []}
+use Rattle.std.specs.Prelude.{◌≡◌, ℕ, ◌+◌, ◌-◌, ◌≤◌, ◌<◌, ◌⊎◌, ◌==◌, max, nat_lt, All, AllPairs, Any}
 use Rattle.std.specs.Prelude.{List, [], ◌∷◌, ◌++◌, length, map, take, count_by, slice_get, slice_index_or, Some}
 use Rattle.std.specs.List.Sorted.{IsPermutation}
 use Rattle.drt_model.specs.declared.tasks.Task.{Task}
