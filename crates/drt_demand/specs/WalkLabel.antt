@@ -1,14 +1,9 @@
--- The demand label of a walk.
+-- Demand labels are the labels of walks.
 use Rattle.std.specs.Prelude.{◌≡◌, ℕ, List, [], ◌∷◌, ◌++◌}
 use Rattle.drt_model.specs.Digraph.{Digraph}
-use Rattle.drt_model.specs.Walk.{gap, wcet, last_of, work, span}
-use Rattle.drt_graph.specs.declared.front.FrontEntry.{FrontEntry}
+use Rattle.drt_model.specs.Walk.{gap, wcet, last_of}
+use Rattle.drt_graph.specs.WalkLabel.{demand_of}
 use Rattle.drt_demand.specs.Demand.{opening_entry, extend}
-
--- The demand label of the walk that starts at u and goes on over the other vertices: its last vertex, the sum of its
--- separations, and the sum of its execution times.
-abbrev pub demand_of : Digraph → ℕ → List ℕ → FrontEntry
-demand_of g u vs = record { vertex = last_of u vs; offset = span g u vs; work = work g (u ∷ vs) }
 
 -- Demand labels are the labels of walks: that of one vertex is the opening label, and that of a longer walk is the label
 -- of the walk without its last vertex, extended by the last edge.

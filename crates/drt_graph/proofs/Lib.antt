@@ -8,3 +8,4 @@ pub mod Allowed
 pub mod Gaps
 pub mod Rests
 pub mod Scales
+pub mod WalkLabels

@@ -6,3 +6,4 @@ pub mod Horizon
 pub mod Graphs
 pub mod Past
 pub mod Fits
+pub mod WalkLabel

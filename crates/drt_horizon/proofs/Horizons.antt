@@ -23,7 +23,7 @@ task : (g : Digraph) (a b : ℕ) (hs : List ℤ) (scale t : ℕ) (walk : List �
     → scale * work g walk ≤ a * (scale / b) * t + above_zero (constant_of g a b hs) * (scale / b)
 task g a b hs scale t [] sound fits divides due = rw work_none (omega arith)
 task g a b hs scale t (u ∷ vs) sound fits divides due =
-    scaled_work g a b hs scale t u vs sound fits divides due.0 due.1 due.2
+    scaled_work g a b hs scale t u vs sound fits divides due.0.0 due.0.1 due.1
 
 all : (graphs : List Digraph) (proofs : List RatioProof) (scale t : ℕ) (walks : List (List ℕ)) → All IsSoundGraph graphs → AreGiven graphs proofs
     → EachDivides (fractions_of proofs) scale → AreDue t graphs walks → scale * efforts_together graphs walks ≤ rate_at scale proofs * t + extra scale graphs

@@ -3,9 +3,12 @@ use Rattle.std.proofs.Common.{◌≡◌, ℕ, suc, ◌+◌, ◌<◌, ◌≤◌, 
 use Rattle.std.specs.Prelude.{max, nat_le, Ok}
 use Rattle.std.proofs.lemmas.Bool.{cases_lt, leb-true}
 use Rattle.drt_model.specs.Digraph.{Digraph}
-use Rattle.drt_model.specs.Walk.{last_of, span, work, deadline}
+use Rattle.drt_model.specs.Walk.{work, deadline}
 use Rattle.drt_graph.specs.Graphs.{AreGraphs}
 use Rattle.drt_graph.specs.declared.front.FrontEntry.{FrontEntry}
+use Rattle.drt_graph.specs.FrontEntry.{due}
+use Rattle.drt_graph.specs.WalkLabel.{demand_of}
+use Rattle.drt_graph.proofs.WalkLabels.{parts_of}
 use Rattle.drt_sweep.specs.Dues.{sum_due}
 use Rattle.drt_demand.specs.Dbf.{dbf_at}
 use Rattle.drt_ratio.specs.declared.ratio_proof.RatioProof.{RatioProof}
@@ -18,18 +21,18 @@ use Rattle.drt_horizon.specs.Laws.{IsDue, AreDue, efforts_together, IsWalkLabel,
 use Rattle.drt_horizon.proofs.Horizons.{horizon_holds}
 
 -- A walk of a graph that is due by t and has that work.
-abbrev pub HasWalk : Digraph → ℕ → ℕ → Type 0
-HasWalk g t n = (w : List ℕ) × IsDue g t w × (work g w ≡ n)
+abbrev pub HasDueWalk : Digraph → ℕ → ℕ → Type 0
+HasDueWalk g t n = (w : List ℕ) × IsDue g t w × (work g w ≡ n)
 
-label_walk : (g : Digraph) (t r : ℕ) (x : FrontEntry) → IsWalkLabel g x → HasWalk g t r → (b : Bool) → nat_le (x.offset + deadline g x.vertex) t ≡ b → HasWalk g t (max (cond b x.work 0) r)
+label_walk : (g : Digraph) (t r : ℕ) (x : FrontEntry) → IsWalkLabel g x → HasDueWalk g t r → (b : Bool) → nat_le (x.offset + deadline g x.vertex) t ≡ b → HasDueWalk g t (max (cond b x.work 0) r)
 label_walk g t r x is rest false e = (rest.0, rest.1, rest.2 ∙ plain r)
   where
     plain : (n : ℕ) → n ≡ max 0 n
     plain n = grind arith
 label_walk g t r x is rest true e = go (cases_lt x.work r)
   where
-    due : x.offset + deadline g x.vertex ≤ t
-    due = leb-true (x.offset + deadline g x.vertex) t e
+    near : due g x ≤ t
+    near = leb-true (x.offset + deadline g x.vertex) t e
 
     less : (a b : ℕ) → a < b → b ≡ max a b
     less a b l = grind arith
@@ -37,16 +40,15 @@ label_walk g t r x is rest true e = go (cases_lt x.work r)
     more : (a b : ℕ) → b ≤ a → a ≡ max a b
     more a b l = grind arith
 
-    go : (x.work < r) ⊎ (r ≤ x.work) → HasWalk g t (max x.work r)
+    go : (x.work < r) ⊎ (r ≤ x.work) → HasDueWalk g t (max x.work r)
     go (inl l) = (rest.0, rest.1, rest.2 ∙ less x.work r l)
     go (inr l) =
-        let same = is.4 in
-        let sum : x.offset + deadline g x.vertex ≡ span g is.0 is.1 + deadline g (last_of is.0 is.1) = ap (λ y. y.offset + deadline g y.vertex) same in
-        let total : x.work ≡ work g (is.0 ∷ is.1) = ap (λ y. y.work) same in
-        (is.0 ∷ is.1, (is.2, is.3, omega (arith, due, sum)), sym total ∙ more x.work r l)
+        let label = is.2 in
+        let same : due g x ≡ due g (demand_of g is.0 is.1) = ap (due g) label.is in
+        (is.0 ∷ is.1, ((label.is_vertex, label.path), omega (arith, near, same)), sym (parts_of label).works ∙ more x.work r l)
 
-front_walk : (g : Digraph) (t : ℕ) (front : List FrontEntry) → All (IsWalkLabel g) front → HasWalk g t (dbf_at g front t)
-front_walk g t [] all = ([], tt, work_none g)
+front_walk : (g : Digraph) (t : ℕ) (front : List FrontEntry) → All (IsWalkLabel g) front → HasDueWalk g t (dbf_at g front t)
+front_walk g t [] all = ([], (tt, omega arith), work_none g)
 front_walk g t (x ∷ front) all =
     label_walk g t (dbf_at g front t) x (all 0 x (omega arith)) (front_walk g t front (λ k d l. all (suc k) d (omega arith))) (nat_le (x.offset + deadline g x.vertex) t) refl
 

@@ -1,14 +1,14 @@
 -- What the horizon and the turns of a set mean.
-use Rattle.std.specs.Prelude.{◌≡◌, ℕ, ◌+◌, ◌-◌, ◌*◌, ◌/◌, ◌<◌, ◌≤◌, ℤ, pos, ◌+ℤ◌, ◌≤ℤ◌, List, [], ◌∷◌, All, Ok}
+use Rattle.std.specs.Prelude.{ℕ, ◌+◌, ◌-◌, ◌*◌, ◌/◌, ◌<◌, ◌≤◌, ℤ, pos, ◌+ℤ◌, ◌≤ℤ◌, List, [], ◌∷◌, All, Ok}
 use Rattle.drt_model.specs.Each.{Each}
 use Rattle.drt_model.specs.Digraph.{Digraph, IsSoundGraph, vertex_count}
-use Rattle.drt_model.specs.Walk.{IsPath, last_of, work, span, deadline}
+use Rattle.drt_model.specs.Walk.{IsPath, last_of, work, span, deadline, IsWalk, due_of}
 use Rattle.drt_graph.specs.RatioRules.{FitPotentials}
 use Rattle.drt_model.specs.Utilisation.{IsScale}
 use Rattle.drt_graph.specs.Horizon.{constant_of}
 use Rattle.drt_graph.specs.Graphs.{AreGraphs}
 use Rattle.drt_graph.specs.declared.front.FrontEntry.{FrontEntry}
-use Rattle.drt_demand.specs.WalkLabel.{demand_of}
+use Rattle.drt_graph.specs.WalkLabel.{IsLabelOf}
 use Rattle.drt_ratio.specs.declared.ratio_proof.RatioProof.{RatioProof}
 use Rattle.drt_ratio.specs.SetRatios.{fractions_of}
 use Rattle.drt_horizon.specs.declared.answers.Horizon.TheVariants.{Under}
@@ -27,10 +27,9 @@ WorkIsBounded =
     (u : ℕ) (vs : List ℕ) → u < vertex_count g → IsPath g u vs →
     pos (b * work g (u ∷ vs)) ≤ℤ (pos (a * (span g u vs + deadline g (last_of u vs))) +ℤ constant_of g a b hs)
 
--- A walk, given as the list of its vertices, whose last deadline is at most t. The empty list stands for no walk.
+-- The list is a walk of the graph whose last deadline is at most t. The empty list stands for no walk.
 abbrev pub IsDue : Digraph → ℕ → List ℕ → Type 0
-IsDue g t [] = Unit {0}
-IsDue g t (u ∷ vs) = (u < vertex_count g) × IsPath g u vs × (span g u vs + deadline g (last_of u vs) ≤ t)
+IsDue g t w = IsWalk g w × (due_of g w ≤ t)
 
 -- Such a walk for each graph, in order.
 abbrev pub AreDue : ℕ → List Digraph → List (List ℕ) → Type 0
@@ -70,7 +69,7 @@ SearchEnds =
 
 -- The label is that of a walk of the graph.
 abbrev pub IsWalkLabel : Digraph → FrontEntry → Type 0
-IsWalkLabel g x = (u : ℕ) × (vs : List ℕ) × (u < vertex_count g) × IsPath g u vs × (x ≡ demand_of g u vs)
+IsWalkLabel g x = (u : ℕ) × (vs : List ℕ) × IsLabelOf g u vs x
 
 -- Each label of each list is that of a walk of its graph, and there is one list for each graph, in order.
 abbrev pub AreWalkFronts : List Digraph → List (List FrontEntry) → Type 0

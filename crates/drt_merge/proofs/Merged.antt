@@ -9,7 +9,9 @@ use Rattle.drt_model.specs.Walk.{deadline, last_of, span}
 use Rattle.drt_graph.specs.declared.front.FrontEntry.{FrontEntry}
 use Rattle.drt_claims.specs.Ranges.{IsCounted}
 use Rattle.drt_claims.specs.Fronts.{HasOpenings, IsClosedFront, IsExtended}
-use Rattle.drt_graph.specs.FrontEntry.{Covers}
+use Rattle.drt_graph.specs.FrontEntry.{due, Covers}
+use Rattle.drt_graph.specs.WalkLabel.{demand_of}
+use Rattle.drt_graph.proofs.WalkLabels.{same_entry}
 use Rattle.drt_wave.specs.Fronts.{IsWalkEntry, IsNonDominatedEntry, IsExactFront, CoversAll}
 use Rattle.drt_merge.specs.declared.mark.Mark.{Mark}
 use Rattle.drt_merge.specs.Arcs.{arc_of, extended}
@@ -17,10 +19,6 @@ use Rattle.drt_merge.specs.Marks.{row, mark_at, entry_of, opening_mark, IsCovere
 use Rattle.drt_merge.specs.Merging.{AreMerged}
 use Rattle.drt_merge.specs.Gathered.{AreMarkEntries, IsMergedFront}
 use Rattle.drt_merge.proofs.Closed.{covered}
-
--- Entries with the same parts are equal.
-same_entry : (d e : FrontEntry) → d.vertex ≡ e.vertex → d.offset ≡ e.offset → d.work ≡ e.work → d ≡ e
-same_entry d e p q r = λ i. record { vertex = p i; offset = q i; work = r i }
 
 any_of : {X : Type 0} (P : X → Type 0) (xs : List X) (x : X) → Contains xs x → P x → Any P xs
 any_of P xs x has is = (has.0, x, has.1, has.2, is)
@@ -62,12 +60,9 @@ module _ (g : Digraph) (bound : ℕ) (sound : IsSoundGraph g) (constrained : IsC
   -- Each walk that is due within the bound is covered.
   covers_all : CoversAll (IsWalkEntry g bound) front
   covers_all e w =
-      let d : deadline g e.vertex ≡ deadline g (last_of w.first w.others) = ap (deadline g) w.vertex in
-      let o = w.offset in let near = w.within in
-      let is = covered g sound constrained bound front openings closed w.first w.others w.is_vertex w.path (omega (arith, d, o, near)) in
-      let P : ℕ → ℕ → ℕ → Type 0 = λ v s x. Any (Covers v s x) front in
-      subst (λ v. P v e.offset e.work) (sym w.vertex)
-      (subst (λ s. P (last_of w.first w.others) s e.work) (sym w.offset) (subst (λ x. P (last_of w.first w.others) (span g w.first w.others) x) (sym w.works) is))
+      let within : due g (demand_of g w.first w.others) ≤ bound = subst (λ x. due g x ≤ bound) w.label.is w.within in
+      let is = covered g sound constrained bound front openings closed w.first w.others w.label.is_vertex w.label.path (omega (arith, within)) in
+      subst (λ (x : FrontEntry). Any (Covers x.vertex x.offset x.work) front) (sym w.label.is) is
 
   -- Two entries of one vertex, of which the first covers the second, are equal.
   one_entry : (f e : FrontEntry) → Contains front f → Contains front e → f.vertex ≡ e.vertex → f.offset ≤ e.offset → e.work ≤ f.work → f ≡ e

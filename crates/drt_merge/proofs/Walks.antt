@@ -5,9 +5,9 @@ use Rattle.std.proofs.lemmas.List.Elements.{All-push, Contains-push, Contains-ap
 use mathlib.Core.Logic.{dite}
 use native.Mathlib.Decide.{dec_lt}
 use Rattle.drt_model.specs.Digraph.{Digraph, IsSoundGraph, vertex_count, out_degree, edge_of}
-use Rattle.drt_model.specs.Walk.{IsEdge, deadline, gap, last_of, span, wcet, work}
+use Rattle.drt_model.specs.Walk.{IsEdge, deadline, gap, wcet}
 use Rattle.drt_graph.proofs.Edges.{sep_of_edge, gap_of}
-use Rattle.drt_graph.proofs.Paths.{path_both, last_both, work_both, span_both, work_cons, work_none, span_cons, span_none}
+use Rattle.drt_graph.proofs.WalkLabels.{label_one, label_more}
 use Rattle.drt_wave.specs.Fronts.{IsWalkEntry}
 use Rattle.drt_merge.specs.declared.mark.Mark.{Mark}
 use Rattle.drt_merge.specs.declared.arcs.Arc.{Arc}
@@ -16,36 +16,13 @@ use Rattle.drt_merge.specs.Marks.{entry_of, opening_mark, IsSmallMark}
 
 -- The walk of one vertex.
 pub opening_walk : (g : Digraph) (bound v : ℕ) → v < vertex_count g → deadline g v ≤ bound → IsWalkEntry g bound (entry_of v (opening_mark g v))
-opening_walk g bound v lv due =
-    let s = span_none g v in let w = work_cons g v [] in let n = work_none g in
-    record { first = v; others = []; is_vertex = lv; path = tt; vertex = refl; offset = sym s; works = omega (arith, w, n); within = omega (arith, due) }
+opening_walk g bound v lv near = record { first = v; others = []; label = label_one g v lv; within = omega (arith, near) }
 
 -- A walk that goes on by an edge, and is due within the bound.
 pub walk_edge : (g : Digraph) (bound u v : ℕ) (m : Mark) → IsWalkEntry g bound (entry_of u m) → IsEdge g u v → m.offset + gap g u v + deadline g v ≤ bound
     → IsWalkEntry g bound (entry_of v (record { offset = m.offset + gap g u v; work = m.work + wcet g v }))
 walk_edge g bound u v m walk edge near =
-    let last : ℕ = last_of walk.first walk.others in
-    let is : u ≡ last_of walk.first walk.others = walk.vertex in
-    let edge_on : IsEdge g (last_of walk.first walk.others) v = subst (λ z. IsEdge g z v) is edge in
-    let gap_on : gap g (last_of walk.first walk.others) v ≡ gap g u v = ap (λ x. gap g x v) (sym is) in
-    let s = span_both g walk.first walk.others (v ∷ []) in
-    let s1 = span_cons g (last_of walk.first walk.others) v [] in
-    let s2 = span_none g v in
-    let o : m.offset ≡ span g walk.first walk.others = walk.offset in
-    let w = work_both g (walk.first ∷ walk.others) (v ∷ []) in
-    let w1 = work_cons g v [] in
-    let w2 = work_none g in
-    let n : m.work ≡ work g (walk.first ∷ walk.others) = walk.works in
-    record {
-      first = walk.first;
-      others = walk.others ++ v ∷ [];
-      is_vertex = walk.is_vertex;
-      path = path_both g walk.first walk.others (v ∷ []) walk.path (edge_on, tt);
-      vertex = sym (last_both walk.first walk.others (v ∷ []));
-      offset = omega (arith, s, s1, s2, gap_on, o);
-      works = omega (arith, w, w1, w2, n);
-      within = near;
-    }
+    record { first = walk.first; others = walk.others ++ v ∷ []; label = label_more g walk.first walk.others (entry_of u m) v walk.label edge; within = near }
 
 module _ (g : Digraph) (sound : IsSoundGraph g) where
   pub target_within : (a : Arc) → IsArc g a → a.target < vertex_count g

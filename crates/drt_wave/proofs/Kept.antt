@@ -13,19 +13,17 @@ use Rattle.drt_graph.proofs.Edges.{edge_of_sep, source_of}
 use Rattle.drt_graph.proofs.Paths.{span_cons, span_none}
 use Rattle.drt_wave.specs.Cells.{IsWavePlan}
 use Rattle.drt_wave.specs.Dense.{Dense, AreBest, work_at}
-use Rattle.drt_wave.specs.Greatest.{IsWalkInRange, HasWalk, IsGreatestWork}
-use Rattle.drt_wave.specs.Fronts.{IsRangeEntry, IsWalkEntry, IsNonDominatedEntry, IsFrontOf, IsExactFront, CoversAll}
-use Rattle.drt_graph.specs.FrontEntry.{IsNextEntry, Covers}
+use Rattle.drt_wave.specs.Greatest.{IsWalkInRange, IsRangeEntry, HasWalk, IsGreatestWork}
+use Rattle.drt_wave.specs.Fronts.{IsWalkEntry, IsNonDominatedEntry, IsFrontOf, IsExactFront, CoversAll}
+use Rattle.drt_graph.specs.FrontEntry.{due, IsNextEntry, Covers}
+use Rattle.drt_graph.specs.WalkLabel.{demand_of}
+use Rattle.drt_graph.proofs.WalkLabels.{same_entry}
 use Rattle.drt_wave.specs.Gathered.{IsCellKept, IsCellBefore, AreCellsGathered, IsMost}
 use Rattle.drt_wave.proofs.Walks.{greatest_at, has_bounds}
 
 -- An entry of these parts.
 abbrev entry : ℕ → ℕ → ℕ → FrontEntry
 entry v s x = record { vertex = v; offset = s; work = x }
-
--- Entries with the same parts are equal.
-same_entry : (d e : FrontEntry) → d.vertex ≡ e.vertex → d.offset ≡ e.offset → d.work ≡ e.work → d ≡ e
-same_entry d e p q r = λ i. record { vertex = p i; offset = q i; work = r i }
 
 module _ (d : Dense) (plan : IsWavePlan d.plan) (best : AreBest d.plan d.columns) where
   abbrev IsLabel : FrontEntry → Type 0
@@ -123,45 +121,22 @@ module _ (d : Dense) (plan : IsWavePlan d.plan) (best : AreBest d.plan d.columns
 
   range_of_walk : IsConstrainedGraph d.plan.graph → (e : FrontEntry) → IsWalkEntry d.plan.graph d.plan.bound e → IsLabel e
   range_of_walk con e w =
-      let g = d.plan.graph in
-      let due = w.within in let off = w.offset in let last : deadline g e.vertex ≡ deadline g (last_of w.first w.others) = ap (deadline g) w.vertex in (
-        w.first,
-        w.others,
-        record {
-          is_vertex = w.is_vertex;
-          path = w.path;
-          range = all_in_range con 0 w.first w.others w.path (omega (arith, due, off, last));
-          vertex = sym w.vertex;
-          offset = sym w.offset;
-          works = sym w.works;
-        },
-      )
+      let within : due d.plan.graph (demand_of d.plan.graph w.first w.others) ≤ d.plan.bound = subst (λ x. due d.plan.graph x ≤ d.plan.bound) w.label.is w.within in
+      record { first = w.first; others = w.others; label = w.label; range = all_in_range con 0 w.first w.others w.label.path (omega (arith, within)) }
 
   range_last : (s u : ℕ) (vs : List ℕ) → IsWalkInRange d.plan.graph d.plan.bound s u vs → s + span d.plan.graph u vs + deadline d.plan.graph (last_of u vs) ≤ d.plan.bound
   range_last s u [] range = let none = span_none d.plan.graph u in omega (arith, range, none)
   range_last s u (v ∷ vs) range = let more = span_cons d.plan.graph u v vs in let rest = range_last (s + gap d.plan.graph u v) v vs range.1 in omega (arith, more, rest)
 
-  -- Where a cell isn't 0, its vertex is due within the bound.
-  pub cell_due : (v s : ℕ) → v < vertex_count d.plan.graph → s ≤ d.plan.bound → 0 < work_at d v s → s + deadline d.plan.graph v ≤ d.plan.bound
-  cell_due v s ltv le some =
-      let h = (greatest v s ltv le).0 (λ z. absurd (omega arith)) in let is = h.2 in
-      let due = range_last 0 h.0 h.1 is.range in let off = is.offset in let last : deadline d.plan.graph (last_of h.0 h.1) ≡ deadline d.plan.graph v = ap (deadline d.plan.graph) is.vertex in
-      omega (arith, due, off, last)
-
   walk_of_range : (e : FrontEntry) → IsLabel e → IsWalkEntry d.plan.graph d.plan.bound e
   walk_of_range e h =
-      let g = d.plan.graph in let is = h.2 in
-      let due = range_last 0 h.0 h.1 is.range in let off = is.offset in let last : deadline g (last_of h.0 h.1) ≡ deadline g e.vertex = ap (deadline g) is.vertex in
-      record {
-        first = h.0;
-        others = h.1;
-        is_vertex = is.is_vertex;
-        path = is.path;
-        vertex = sym is.vertex;
-        offset = sym is.offset;
-        works = sym is.works;
-        within = omega (arith, due, off, last);
-      }
+      let last = range_last 0 h.first h.others h.range in
+      let within : due d.plan.graph (demand_of d.plan.graph h.first h.others) ≤ d.plan.bound = omega (arith, last) in
+      record { first = h.first; others = h.others; label = h.label; within = subst (λ x. due d.plan.graph x ≤ d.plan.bound) (sym h.label.is) within }
+
+  -- Where a cell isn't 0, its vertex is due within the bound.
+  pub cell_due : (v s : ℕ) → v < vertex_count d.plan.graph → s ≤ d.plan.bound → 0 < work_at d v s → s + deadline d.plan.graph v ≤ d.plan.bound
+  cell_due v s ltv le some = (walk_of_range (entry v s (work_at d v s)) ((greatest v s ltv le).0 (λ z. absurd (omega arith)))).within
 
   -- So a front of the labels of walks in range is one of all walks whose last job is due within the bound.
   pub constrained_front : (entries : List FrontEntry) → IsFrontOf IsLabel entries → IsConstrainedGraph d.plan.graph → IsExactFront d.plan.bound d.plan.graph entries

@@ -2,10 +2,12 @@
 use Rattle.std.proofs.Common.{◌≡◌, ℕ, ◌+◌, ◌<◌, ◌≤◌, List, [], ◌∷◌, ◌++◌, reverse, Some, refl, sym, ap, ◌∙◌, subst, arith}
 use Rattle.std.proofs.lemmas.List.{reverse-append}
 use Rattle.drt_model.specs.declared.tasks.Edge.{Edge}
-use Rattle.drt_model.specs.Digraph.{Digraph, IsSoundGraph, vertex_count, edge_of}
+use Rattle.drt_model.specs.Digraph.{Digraph, vertex_count, edge_of}
 use Rattle.drt_model.specs.Walk.{IsPath, gap, wcet, deadline, sep, last_of, work, span}
 use Rattle.drt_graph.proofs.Edges.{sep_of_edge, gap_of, source_of, target_of}
+use Rattle.drt_graph.specs.declared.front.FrontEntry.{FrontEntry}
 use Rattle.drt_graph.proofs.Paths.{work_cons, work_none, span_cons, span_none}
+use Rattle.drt_graph.proofs.WalkLabels.{HasParts, label_of_parts, label_single}
 use Rattle.drt_wave.specs.Net.{IsGreatestReaching, Reached}
 use Rattle.drt_wave.specs.Cells.{cell_at, net_of, IsWavePlan, WalkTo}
 use Rattle.drt_wave.specs.Dense.{Dense, AreBest, work_at}
@@ -16,15 +18,6 @@ use Rattle.drt_wave.proofs.Cells.{to_walk, of_walk, cell_vertex, cell_offset}
 use Rattle.drt_wave.proofs.Working.{reach_more}
 use Rattle.drt_wave.proofs.Walks.{greatest_at}
 use Rattle.drt_wave.proofs.Kept.{cell_due}
-
--- The work of a walk of span 0 is that of one vertex.
-single_work : (g : Digraph) → IsSoundGraph g → (u : ℕ) (vs : List ℕ) → IsPath g u vs → span g u vs ≡ 0 → work g (u ∷ vs) ≡ wcet g (last_of u vs)
-single_work g sound u [] p none = let w = work_cons g u [] in let n = work_none g in omega (arith, w, n)
-single_work g sound u (v ∷ vs) p none =
-    let t = target_of g sound u v (gap g u v) p.0 in
-    let s = span_cons g u v vs in
-    let l = t.1 in
-    absurd (omega (arith, l, s, none))
 
 -- The vertices found so far, the last one first, lead from a vertex and an offset to the last one, and are in range.
 pub record IsTail (d : Dense) (v s at left : ℕ) (found : List ℕ) : Type 0 where
@@ -83,8 +76,7 @@ module _ (d : Dense) (plan : IsWavePlan d.plan) (best : AreBest d.plan d.columns
   single_cell v cell =
       let some = cell.some in
       let h = (greatest_at d.plan d.columns plan best v 0 cell.vertex (omega arith)).0 (λ z. absurd (omega arith)) in
-      let is = h.2 in
-      sym is.works ∙ (single_work d.plan.graph plan.sound h.0 h.1 is.path is.offset ∙ ap (wcet d.plan.graph) is.vertex)
+      label_single d.plan.graph h.first h.others (record { vertex = v; offset = 0; work = work_at d v 0 }) plan.sound h.label refl
 
   pub tail_whole : (v s at left : ℕ) (found walk : List ℕ) → left ≡ 0 → IsAtCell d at left → IsTail d v s at left found → walk ≡ reverse found
       → IsWorkWalkTo d.plan.graph d.plan.bound v s (work_at d v s) walk
@@ -92,14 +84,12 @@ module _ (d : Dense) (plan : IsWavePlan d.plan) (best : AreBest d.plan d.columns
       let g = d.plan.graph in
       let off = t.offset in let tw = t.works in let works = work_cons g at t.others in
       let first : work_at d at left ≡ wcet g at = ap (work_at d at) none ∙ single_cell at (subst (IsAtCell d at) none cell) in
-      subst (IsWorkWalkTo g d.plan.bound v s (work_at d v s)) (sym (is ∙ t.forward)) (record {
-        is_vertex = cell.vertex;
-        path = t.path;
-        range = subst (λ z. IsWalkInRange g d.plan.bound z at t.others) none t.range;
-        vertex = t.vertex;
-        offset = omega (arith, off, none);
-        works = omega (arith, tw, works, first);
-      })
+      let whole : FrontEntry = record { vertex = v; offset = s; work = work_at d v s } in
+      let parts : HasParts g at t.others whole = record { vertex = sym t.vertex; offset = omega (arith, off, none); works = omega (arith, tw, works, first) } in
+      subst (IsWorkWalkTo g d.plan.bound v s (work_at d v s)) (sym (is ∙ t.forward)) (
+        label_of_parts g at t.others whole cell.vertex t.path parts,
+        subst (λ z. IsWalkInRange g d.plan.bound z at t.others) none t.range,
+      )
 
   -- A step leads to a smaller offset.
   pub step_earlier : (u r v s : ℕ) → IsBackStep d u r v s → r < s

@@ -5,7 +5,9 @@ use Rattle.drt_model.specs.declared.tasks.Edge.{Edge}
 use Rattle.drt_model.specs.Digraph.{Digraph, vertex_count, edge_of}
 use Rattle.drt_model.specs.Walk.{wcet, deadline, gap, sep, IsEdge, IsPath, last_of, work, span}
 use Rattle.drt_graph.proofs.Edges.{sep_of_edge, edge_of_sep, gap_of}
-use Rattle.drt_graph.proofs.Paths.{path_both, path_within, last_both, work_both, span_both, work_cons, work_none, span_cons, span_none}
+use Rattle.drt_graph.proofs.Paths.{work_cons, work_none, span_cons, span_none}
+use Rattle.drt_graph.specs.WalkLabel.{IsLabelOf}
+use Rattle.drt_graph.proofs.WalkLabels.{parts_of, label_one, label_more, label_vertex}
 use Rattle.drt_wave.specs.declared.plan.Plan.{Plan}
 use Rattle.drt_wave.specs.Net.{IsGreatestReaching}
 use Rattle.drt_wave.specs.Cells.{cell_at, net_of, IsWavePlan, WalkTo}
@@ -27,35 +29,32 @@ range_first g bound s u (v ∷ vs) range = range.0
 pub goes_on : (p : Plan) → IsWavePlan p → (u v s x : ℕ) → HasWalk p.graph p.bound u s x → IsEdge p.graph u v → s + gap p.graph u v + deadline p.graph v ≤ p.bound
     → HasWalk p.graph p.bound v (s + gap p.graph u v) (x + wcet p.graph v)
 goes_on p plan u v s x walk on fits =
-    let g = p.graph in let f : ℕ = walk.0 in let others : List ℕ = walk.1 in let is = walk.2 in
-    let edge : IsEdge g (last_of f others) v = subst (λ z. IsEdge g z v) (sym is.vertex) on in
-    let gaps : gap g (last_of f others) v ≡ gap g u v = ap (λ z. gap g z v) is.vertex in
-    let s0 = span_both g f others (v ∷ []) in let s1 = span_cons g (last_of f others) v [] in let s2 = span_none g v in let s3 = is.offset in
-    let w0 = work_both g (f ∷ others) (v ∷ []) in let w1 = work_cons g v [] in let w2 = work_none g in let w3 = is.works in (
-      f,
-      others ++ v ∷ [],
-      record {
-        is_vertex = is.is_vertex;
-        path = path_both g f others (v ∷ []) is.path (edge, tt);
-        range = range_more g p.bound 0 f v others is.range (omega (arith, fits, gaps, s3));
-        vertex = last_both f others (v ∷ []);
-        offset = omega (arith, s0, s1, s2, s3, gaps);
-        works = omega (arith, w0, w1, w2, w3);
-      },
-    )
+    let g = p.graph in let f : ℕ = walk.first in let others : List ℕ = walk.others in
+    let parts = parts_of walk.label in
+    let gaps : gap g (last_of f others) v ≡ gap g u v = ap (λ z. gap g z v) (sym parts.vertex) in
+    let off = parts.offset in
+    record {
+      first = f;
+      others = others ++ v ∷ [];
+      label = label_more g f others (record { vertex = u; offset = s; work = x }) v walk.label on;
+      range = range_more g p.bound 0 f v others walk.range (omega (arith, fits, gaps, off));
+    }
 
 -- The walk of some vertices, the last first, is one of the graph.
 pub walk_of : (p : Plan) → IsWavePlan p → (v : ℕ) (before : List ℕ) (s x : ℕ) → WalkTo p v before s x → HasWalk p.graph p.bound v s x
 walk_of p plan v [] s x w =
-    let g = p.graph in let none = span_none g v in let w1 = work_cons g v [] in let w2 = work_none g in let off = w.1 in let works = w.2 in let due = w.3 in (
-      v,
-      [],
-      record { is_vertex = w.0; path = tt; range = omega (arith, due); vertex = refl; offset = omega (arith, none, off); works = omega (arith, w1, w2, works) },
-    )
+    let g = p.graph in let due = w.3 in
+    let same_s : 0 ≡ s = sym w.1 in let same_x : wcet g v ≡ x = sym w.2 in
+    record {
+      first = v;
+      others = [];
+      label = subst (λ (q : ℕ × ℕ). IsLabelOf g v [] (record { vertex = v; offset = q.0; work = q.1 })) (λ i. (same_s i, same_x i)) (label_one g v w.0);
+      range = omega (arith, due);
+    }
 walk_of p plan v (u ∷ before) s x w =
     let g = p.graph in let k : ℕ = w.0 in let r : ℕ = w.1 in let y : ℕ = w.2 in let e : Edge = edge_of g u k in
     let walk = walk_of p plan u before r y w.3 in
-    let ltu : u < vertex_count g = subst (λ z. z < vertex_count g) walk.2.vertex (path_within g plan.sound walk.0 walk.1 walk.2.is_vertex walk.2.path) in
+    let ltu : u < vertex_count g = label_vertex g walk.first walk.others (record { vertex = u; offset = r; work = y }) plan.sound walk.label in
     let named : sep g u v ≡ Some e.sep = subst (λ z. sep g u z ≡ Some e.sep) w.5 (sep_of_edge g plan.sound u k ltu w.4) in
     let is = gap_of g u v e.sep named in let gaps = is.0 in let off = w.6 in let works = w.7 in let due = w.8 in
     let same_s : r + gap g u v ≡ s = omega (arith, gaps, off) in
@@ -82,19 +81,20 @@ before_of p f (v ∷ vs) s x before w path range =
 -- A walk of the graph, as such a list.
 pub of_has : (p : Plan) (v s x : ℕ) → HasWalk p.graph p.bound v s x → (before : List ℕ) × WalkTo p v before s x
 of_has p v s x walk =
-    let g = p.graph in let u : ℕ = walk.0 in let others : List ℕ = walk.1 in let is = walk.2 in
-    let one : WalkTo p u [] 0 (wcet g u) = (is.is_vertex, refl, refl, let due = range_first g p.bound 0 u others is.range in omega (arith, due)) in
-    let r = before_of p u others 0 (wcet g u) [] one is.path is.range in
-    let off = is.offset in let works = is.works in let w1 = work_cons g u others in
+    let g = p.graph in let u : ℕ = walk.first in let others : List ℕ = walk.others in
+    let parts = parts_of walk.label in
+    let one : WalkTo p u [] 0 (wcet g u) = (walk.label.is_vertex, refl, refl, let due = range_first g p.bound 0 u others walk.range in omega (arith, due)) in
+    let r = before_of p u others 0 (wcet g u) [] one walk.label.path walk.range in
+    let off = parts.offset in let works = parts.works in let w1 = work_cons g u others in
     let same_s : 0 + span g u others ≡ s = omega (arith, off) in
     let same_x : wcet g u + work g others ≡ x = omega (arith, works, w1) in
-    (r.0, subst (λ (q : ℕ × ℕ × ℕ). WalkTo p q.0 r.0 q.1 q.2) (λ i. (is.vertex i, same_s i, same_x i)) r.1)
+    (r.0, subst (λ (q : ℕ × ℕ × ℕ). WalkTo p q.0 r.0 q.1 q.2) (λ i. (sym parts.vertex i, same_s i, same_x i)) r.1)
 
 -- Where a walk in range ends there is a cell, and its work is more than 0.
 pub has_bounds : (p : Plan) → IsWavePlan p → (v s x : ℕ) → HasWalk p.graph p.bound v s x → (v < vertex_count p.graph) × (s ≤ p.bound) × (0 < x)
 has_bounds p plan v s x walk =
     let b = of_has p v s x walk in let at = of_walk p plan v b.0 s x b.1 in
-    let some = (plan.sound.wcet walk.0 walk.2.is_vertex).0 in let w1 = work_cons p.graph walk.0 walk.1 in let works = walk.2.works in
+    let some = (plan.sound.wcet walk.first walk.label.is_vertex).0 in let w1 = work_cons p.graph walk.first walk.others in let works = (parts_of walk.label).works in
     (at.1, at.0, omega (arith, some, w1, works))
 
 -- What a cell holds is the greatest work of the walks that end there.

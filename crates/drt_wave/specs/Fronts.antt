@@ -1,25 +1,16 @@
 -- Fronts: the labels of walks that no other label covers.
-use Rattle.drt_graph.specs.FrontEntry.{Covers}
-use Rattle.std.specs.Prelude.{◌≡◌, ℕ, ◌+◌, ◌≤◌, ◌<◌, ◌⊎◌, ◌↔◌, List, ◌∷◌, Any, Contains}
-use Rattle.drt_model.specs.Digraph.{Digraph, vertex_count}
-use Rattle.drt_model.specs.Walk.{IsPath, deadline, last_of, span, work}
+use Rattle.std.specs.Prelude.{◌≡◌, ℕ, ◌≤◌, ◌↔◌, List, Any, Contains}
+use Rattle.drt_model.specs.Digraph.{Digraph}
 use Rattle.drt_graph.specs.declared.front.FrontEntry.{FrontEntry}
-use Rattle.drt_wave.specs.Greatest.{HasWalk}
-
--- The entry is the label of a walk that is in range of the bound.
-abbrev pub IsRangeEntry : Digraph → ℕ → FrontEntry → Type 0
-IsRangeEntry g bound e = HasWalk g bound e.vertex e.offset e.work
+use Rattle.drt_graph.specs.FrontEntry.{due, Covers}
+use Rattle.drt_graph.specs.WalkLabel.{IsLabelOf}
 
 -- The entry is the label of a walk whose last job is due within the bound.
 pub record IsWalkEntry (g : Digraph) (bound : ℕ) (e : FrontEntry) : Type 0 where
   pub first : ℕ
   pub others : List ℕ
-  pub is_vertex : first < vertex_count g
-  pub path : IsPath g first others
-  pub vertex : e.vertex ≡ last_of first others
-  pub offset : e.offset ≡ span g first others
-  pub works : e.work ≡ work g (first ∷ others)
-  pub within : e.offset + deadline g e.vertex ≤ bound
+  pub label : IsLabelOf g first others e
+  pub within : due g e ≤ bound
 
 -- The entry is one of some labels, and no other of them covers it: none of its vertex has at most its offset and at least its work.
 pub record IsNonDominatedEntry (IsLabel : FrontEntry → Type 0) (e : FrontEntry) : Type 0 where

@@ -2,7 +2,8 @@
 ghost use Rattle.std.specs.Prelude.{◌+◌, ◌*◌, ◌<◌, ◌≤◌, length, IfOk};
 ghost use Rattle.drt_model.specs.Digraph.{IsConstrainedGraph, vertex_count};
 ghost use Rattle.drt_model.specs.Legal.{AllNeighbours};
-ghost use Rattle.drt_wave.specs.Fronts.{IsRangeEntry, IsWalkEntry, IsFrontOf, IsExactFront, CoversAll};
+ghost use Rattle.drt_wave.specs.Greatest.{IsRangeEntry};
+ghost use Rattle.drt_wave.specs.Fronts.{IsWalkEntry, IsFrontOf, IsExactFront, CoversAll};
 ghost use Rattle.drt_graph.specs.FrontEntry.{IsNextEntry};
 ghost use Rattle.drt_wave.specs.Gathered.{AreCellsGathered, IsMost};
 

@@ -1,6 +1,7 @@
 use Rattle.std.proofs.Common.{◌≡◌, ◌∙◌, length, ap, sym, subst, arith}
 use Rattle.drt_model.specs.Digraph.{vertex_count}
-use Rattle.drt_wave.specs.Fronts.{IsRangeEntry, IsWalkEntry, IsFrontOf, IsExactFront, CoversAll}
+use Rattle.drt_wave.specs.Greatest.{IsRangeEntry}
+use Rattle.drt_wave.specs.Fronts.{IsWalkEntry, IsFrontOf, IsExactFront, CoversAll}
 use Rattle.drt_wave.specs.Gathered.{AreCellsGathered}
 use Rattle.drt_wave.proofs.Kept.{gathered_front, gathered_covers, constrained_front, constrained_covers}
 use Rattle.drt_wave.proofs.dense.DenseFront.front.Goals as goal
