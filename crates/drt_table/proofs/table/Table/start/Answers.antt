@@ -1,7 +1,9 @@
-use Rattle.std.proofs.Common.{◌≡◌, ◌+◌, length, sym, ap, ◌∙◌}
+use Rattle.std.proofs.Common.{◌≡◌, ◌+◌, List, length, sym, ap, ◌∙◌}
 use Rattle.drt_model.specs.Digraph.{Digraph, IsSoundGraph}
-use Rattle.drt_table.specs.Machine.{Setting, shortest}
+use Rattle.drt_table.specs.Machine.{Setting, shortest, opening_state}
+use Rattle.drt_table.specs.Node.{NodeOf}
 use Rattle.drt_table.specs.View.{View, setting_of}
+use Rattle.drt_table.specs.declared.step.Entry.{Entry}
 use Rattle.drt_table.proofs.Arranged.{same_le}
 use Rattle.drt_table.proofs.Start.{table_starts}
 use Rattle.drt_table.proofs.table.Table.start.Goals as goal
@@ -19,3 +21,15 @@ invariant_of-result g c =
       c.in_ok-log.ensures.capacity,
       c.shortest-shortest.ensures ∙ ap (λ (x : Digraph). shortest x.out) (sym graph),
     )
+
+pub returns-clause-setting : goal.returns-clause-setting
+returns-clause-setting g c = ap (λ (x : Digraph). record { graph = x; bound = c.args.bound; budget = c.args.budget }) c.in_ok-own.ensures
+
+pub returns-clause-state : goal.returns-clause-state
+returns-clause-state g c =
+    let t : Setting = record { graph = c.args.graph.now; bound = c.args.bound; budget = c.args.budget } in
+    ap (λ (ns : List (NodeOf _)). record { nodes = ns; log = c.in_ok-log.log.items }) c.in_ok-arena.ensures.nodes
+    ∙ ap (λ (es : List Entry). record { nodes = (opening_state g.L.Label.algebra t).nodes; log = es }) c.in_ok-log.ensures.items
+
+pub returns-clause-spares : goal.returns-clause-spares
+returns-clause-spares g c = c.in_ok-arena.ensures.spares
