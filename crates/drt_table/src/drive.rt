@@ -3,7 +3,9 @@
 ghost use Rattle.std.specs.Prelude.{◌≡◌, ℕ, ◌<◌, Some, slice_get, IfOk};
 ghost use Rattle.drt_model.specs.Digraph.{out_degree};
 ghost use Rattle.drt_table.specs.Drive.{Drives, StopsAt};
-ghost use Rattle.drt_table.specs.Node.{NodeOf};
+ghost use Rattle.drt_table.specs.Earliest.{earliest};
+ghost use Rattle.drt_table.specs.Held.{held_offset};
+ghost use Rattle.drt_table.specs.Node.{NodeOf, is_taken};
 ghost use Rattle.drt_table.specs.Turn.{Turn, ends};
 ghost use Rattle.drt_table.specs.View.{ComesWith, setting_of, state_of};
 
@@ -37,17 +39,24 @@ impl<L: Label> Table<L> {
     {
         match self.arena.holder() {
             None => Ok(self.take(worker)),
-            Some(id) => {
-                let node = self.arena.node(id);
-                let holder = node.holder();
-                let edge = node.offered();
-                if edge < self.graph.out_degree(node.vertex()) {
-                    let twin = self.extended(alloc, id, edge)?;
-                    Ok(self.offer(holder, id, edge, twin))
-                } else {
-                    Ok(self.close(holder, id))
-                }
-            }
+            Some(id) => self.go_on(alloc, id),
+        }
+    }
+
+    // The next step on the taken node of least offset, for the worker that holds it.
+    fn go_on(&mut self, alloc: Global, id: u32) -> Result<TableReply, Memory>
+        requires { earliest (λ h. is_taken h.node) (held_offset L.algebra) self.old.nodes ≡ Some id }
+        ensures setting { setting_of self.new ≡ setting_of self.old }
+        ensures turn { (w : ℕ) → IfOk result (λ reply. Turn L.algebra w self.old self.new reply) }
+    {
+        let node = self.arena.node(id);
+        let holder = node.holder();
+        let edge = node.offered();
+        if edge < self.graph.out_degree(node.vertex()) {
+            let twin = self.extended(alloc, id, edge)?;
+            Ok(self.offer(holder, id, edge, twin))
+        } else {
+            Ok(self.close(holder, id))
         }
     }
 

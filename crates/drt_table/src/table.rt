@@ -114,12 +114,13 @@ impl<L: Label> Table<L> {
         ensures state { IfOk result (λ table. state_of table ≡ opening_state L.algebra (record { graph = graph.now; bound = bound; budget = budget })) }
         ensures spares { IfOk result (λ table. spares_of table ≡ replicate (length table.nodes) true) }
     {
+        graph.keep_limits();
         let shortest = shortest(graph);
-        let arena = opening_arena(alloc, graph, bound, budget)?;
         let log = Vec::with_capacity(alloc, budget as usize)?;
-        let graph = graph.copy(alloc)?;
+        let own = graph.copy(alloc)?;
+        let arena = opening_arena(alloc, graph, bound, budget)?;
         Ok(Table {
-            graph,
+            graph: own,
             bound,
             budget,
             shortest,

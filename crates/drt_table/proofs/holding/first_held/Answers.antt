@@ -1,4 +1,4 @@
-use Rattle.std.proofs.Common.{◌≡◌, ◌+◌, ℕ, Bool, Some, length, refl, sym, ◌∙◌, subst, arith}
+use Rattle.std.proofs.Common.{◌≡◌, ◌<◌, ◌≤◌, ◌+◌, ℕ, Bool, Some, length, refl, sym, ◌∙◌, subst, arith}
 use Rattle.std.specs.Prelude.{slice_get, slice_index_or}
 use Rattle.std.proofs.lemmas.Option.{slice_get-get_or, slice_get_read}
 use Rattle.drt_table.specs.Node.{Held, is_held_by}
@@ -35,3 +35,9 @@ returns g c =
     let taken = c.args.taken.now in
     let end : c.loop-j.j ≡ length taken = omega (arith, c.loop-j-test.false, c.loop-j.auto.j-end) in
     least_all p nodes taken c.loop-j.least (λ k x at q. c.requires.all k x at (held_taken c.args.worker x.node q)) (subst (λ (i : ℕ). IsLeastOf p nodes taken i c.loop-j.least) end c.loop-j.invariant)
+
+less_le : (m n : ℕ) → m < n → m ≤ n
+less_le m n lt = omega arith
+
+pub offset_bounds-nodes-id : goal.offset_bounds-nodes-id
+offset_bounds-nodes-id g c = less_le _ _ (c.requires.within c.loop-j.j _ (slice_get-get_or c.args.taken.now c.loop-j.j 0 c.loop-j-test.true))

@@ -1,4 +1,4 @@
-use Rattle.std.proofs.Common.{◌≡◌, ◌+◌, ℕ, Bool, Some, length, refl, sym, ap, ◌∙◌, subst, arith}
+use Rattle.std.proofs.Common.{◌≡◌, ◌<◌, ◌≤◌, ◌+◌, ℕ, Bool, Some, length, refl, sym, ap, ◌∙◌, subst, arith}
 use Rattle.std.specs.Prelude.{slice_get, slice_index_or}
 use Rattle.std.proofs.lemmas.Option.{slice_get-get_or, slice_get_read}
 use Rattle.drt_table.specs.Node.{Held, is_taken}
@@ -39,3 +39,9 @@ returns g c =
     let taken = c.args.taken.now in
     let end : c.loop-j.j ≡ length taken = omega (arith, c.loop-j-test.false, c.loop-j.auto.j-end) in
     c.number_of.ensures ∙ best_all p nodes taken f c.loop-j.best (λ k x at q. c.requires.all k x at q) (subst (λ (i : ℕ). IsBestOf p nodes taken f i c.loop-j.best) end c.loop-j.invariant)
+
+less_le : (m n : ℕ) → m < n → m ≤ n
+less_le m n lt = omega arith
+
+pub offset_bounds-nodes-id : goal.offset_bounds-nodes-id
+offset_bounds-nodes-id g c = less_le _ _ (c.requires.within c.loop-j.j _ (slice_get-get_or c.args.taken.now c.loop-j.j 0 c.loop-j-test.true))

@@ -1,7 +1,9 @@
-use Rattle.std.proofs.Common.{◌≡◌, Some, refl, arith}
+use Rattle.std.proofs.Common.{◌≡◌, ℕ, ◌+◌, ◌<◌, ◌≤◌, Some, length, refl, ap, ◌∙◌, subst, arith}
 use Rattle.std.specs.Prelude.{slice_get}
-use Rattle.std.specs.BinaryHeap.{heap_items}
+use Rattle.std.specs.BinaryHeap.{heap_items, heap_len}
 use Rattle.std.proofs.lemmas.Option.{slice_get_read}
+use Rattle.drt_table.specs.Waiting.{AreWaiting}
+use Rattle.drt_table.proofs.Arranged.{same_le}
 use Rattle.drt_table.proofs.Tickets.{pushed_ticket}
 use Rattle.drt_table.proofs.waiting.give_tickets.Goals as goal
 
@@ -23,3 +25,27 @@ loop-i-preserved g c =
       len = omega (arith, len, more.len);
       capacity = omega (arith, capacity, more.capacity);
     }
+
+-- there is room for the ticket of node i, where each node from `from` on brings one
+room_left : (len first from i n cap most : ℕ) → len + from ≡ first + i → first + n ≤ cap + from → cap ≤ most → i < n → len < most
+room_left len first from i n cap most now room more lt = omega arith
+
+same_end : (i n : ℕ) → i ≤ n → n ≤ i → i ≡ n
+same_end i n le ge = omega arith
+
+pub loop-i-init : goal.loop-i-init
+loop-i-init g c = record { waiting = c.requires.waiting; order = c.requires.order; from = same_le _ _ refl; len = refl; capacity = same_le _ _ refl }
+
+pub push_ticket-requires-clause-room : goal.push_ticket-requires-clause-room
+push_ticket-requires-clause-room g c =
+    room_left _ _ _ _ _ _ _ c.loop-i.invariant.len c.requires.room c.loop-i.invariant.capacity c.loop-i-test.true
+
+pub returns-clause-waiting : goal.returns-clause-waiting
+returns-clause-waiting g c =
+    let end : c.loop-i.i ≡ length c.args.nodes.now = same_end _ _ (c.loop-i.auto.i-end c.requires.from) c.loop-i-test.false in
+    subst (λ n. AreWaiting g.L.Label.algebra c.args.nodes.now (heap_items c.loop-i.queue) n) end c.loop-i.invariant.waiting
+
+pub returns-clause-len : goal.returns-clause-len
+returns-clause-len g c =
+    let end : c.loop-i.i ≡ length c.args.nodes.now = same_end _ _ (c.loop-i.auto.i-end c.requires.from) c.loop-i-test.false in
+    c.loop-i.invariant.len ∙ ap (λ n. heap_len c.args.queue.now + n) end

@@ -1,7 +1,7 @@
-use Rattle.std.proofs.Common.{◌≡◌, ◌<◌, ◌≤◌, ◌+◌, ◌++◌, take, drop, List, length, sym, ap, ◌∙◌, subst, arith, rules}
+use Rattle.std.proofs.Common.{◌≡◌, ◌<◌, ◌≤◌, ◌+◌, ◌++◌, take, drop, List, length, refl, sym, ap, ◌∙◌, subst, arith, rules}
 use Rattle.std.specs.Prelude.{IsTrue}
 use Rattle.std.specs.BinaryHeap.{heap_items}
-use Rattle.drt_table.specs.Arena.{Stock, AreArranged}
+use Rattle.drt_table.specs.Arena.{Stock, HasNodes, AreArranged}
 use Rattle.drt_table.specs.Held.{AllOf, placed_nodes, placed_reply}
 use Rattle.drt_table.specs.Links.{AreAlone, AreLinked}
 use Rattle.drt_table.specs.Node.{Held}
@@ -9,7 +9,7 @@ use Rattle.drt_table.specs.Waiting.{AreWaiting, IsFresh, AreHeld}
 use Rattle.drt_table.proofs.Arranged.{Follows, admit_few, admit_room, place_follows, room_for, sample_last, still_held}
 use Rattle.drt_table.proofs.Linking.{written_back}
 use Rattle.drt_table.proofs.Tickets.{still_waiting}
-use Rattle.drt_table.specs.Sampled.{AreSampled, CanSample, labels_of}
+use Rattle.drt_table.specs.Sampled.{AreSampled, CanSample, HasSamples, labels_of}
 use Rattle.drt_table.proofs.Columns.{IsMore, more_placed, can_sample, has_samples}
 use Rattle.drt_table.proofs.arena.Arena.place.Goals as goal
 
@@ -156,3 +156,19 @@ sample-requires-clause-last g c κs within =
     let follows = place_follows g.L.Label.algebra c.args.twin c.args.origin.parent c.args.origin.deadline c.args.origin.bound nodes in
     sample_last _ _ _ (c.len-from.ensures ∙ c.self.inside.nodes.ok.0)
     (subst (λ m. m ≤ length nodes + 1) (sym (ap length (c.as_slice-2.ensures.value ∙ c.place_in-reply.ensures.nodes))) follows.at_most)
+
+pub place_in-reply-requires-clause-sampled : goal.place_in-reply-requires-clause-sampled
+place_in-reply-requires-clause-sampled g c κs within no_chain =
+    let has : HasSamples g.L.Label.algebra c.self.inside.nodes.items (length c.self.inside.heads.items) c.self.inside.room c.self.inside.columns = c.self.invariant.7 no_chain in
+    record { sampled = has.sampled; vertices_are = has.vertices_are ∙ ap length (sym c.as_mut_slice-heads.ensures.value); room_is = refl }
+
+pub returns-clause-nodes : goal.returns-clause-nodes
+returns-clause-nodes g c =
+    let a = g.L.Label.algebra in
+    let written = take c.self.inside.heads.len (c.place_in-reply.new.heads ++ drop (length c.place_in-reply.new.heads) c.self.inside.heads.items) in
+    let long : length c.place_in-reply.new.heads ≡ c.self.inside.heads.len = search rules in
+    let heads : written ≡ c.place_in-reply.new.heads =
+    written_back c.self.inside.heads.len c.place_in-reply.new.heads (drop (length c.place_in-reply.new.heads) c.self.inside.heads.items) (search rules) in
+    let new : Stock _ = record { nodes = c.place_in-reply.new.nodes.items; vertices = length written; room = c.self.inside.room } in
+    subst (λ (x : Stock _). HasNodes x new (placed_nodes a c.args.twin c.args.origin.parent c.args.origin.deadline c.args.origin.bound x.nodes)) c.self.view_is
+    (record { nodes_are = c.place_in-reply.ensures.nodes; vertices = ap length heads ∙ (long ∙ c.self.inside.heads.ok.0); room = refl })

@@ -1,9 +1,9 @@
-use Rattle.std.proofs.Common.{Some}
-use Rattle.std.proofs.lemmas.Option.{same_Some}
-use Rattle.drt_table.specs.Machine.{extended}
-use Rattle.drt_table.specs.View.{ComesWith, setting_of}
-use Rattle.drt_table.specs.declared.step.TableStep.TheVariants.{Offer}
-use Rattle.drt_table.proofs.Turning.{may_take, turn_take, turn_within, turn_taken, turn_vertex, turn_extends, may_offer, turn_offer, may_close, turn_close}
+use Rattle.std.proofs.Common.{◌≡◌, Some, sym, ap, ◌∙◌}
+use Rattle.drt_table.specs.Earliest.{earliest}
+use Rattle.drt_table.specs.Held.{held_offset}
+use Rattle.drt_table.specs.Node.{Held, is_taken}
+use Rattle.drt_table.specs.View.{View}
+use Rattle.drt_table.proofs.Turning.{may_take, turn_take}
 use Rattle.drt_table.proofs.table.Table.turn.Goals as goal
 
 pub take-requires-after_bounds : goal.take-requires-after_bounds
@@ -12,64 +12,15 @@ take-requires-after_bounds g c κs within =
     may_take g.L.Label.algebra laws _ _ c.self.invariant.0 c.self.view_is _ c.holder.ensures
     c.args.worker c.in-None.is
 
-pub node-node-requires-after_bounds : goal.node-node-requires-after_bounds
-node-node-requires-after_bounds g c κs within =
-    let laws = (g.met.L.Label g.world.𝓛 g.world.𝓜 g.world.𝓡 ((λ s x. x), (λ x. x), (λ x. x), λ x. x)).laws in
-    turn_within g.L.Label.algebra laws _ _ c.self.invariant.0 c.self.view_is _ c.holder.ensures
-    c.in-Some.id c.in-Some.is
-
-pub holder-holder-requires-after_bounds : goal.holder-holder-requires-after_bounds
-holder-holder-requires-after_bounds g c κs within =
-    let laws = (g.met.L.Label g.world.𝓛 g.world.𝓜 g.world.𝓡 ((λ s x. x), (λ x. x), (λ x. x), λ x. x)).laws in
-    turn_taken g.L.Label.algebra laws _ _ c.self.invariant.0 c.self.view_is _ c.holder.ensures
-    c.in-Some.id c.in-Some.is _ c.node-node.ensures
-
-pub out_degree-requires : goal.out_degree-requires
-out_degree-requires g c =
-    let laws = (g.met.L.Label g.world.𝓛 g.world.𝓜 g.world.𝓡 ((λ s x. x), (λ x. x), (λ x. x), λ x. x)).laws in
-    turn_vertex g.L.Label.algebra laws _ _ c.self.invariant.0 c.self.view_is _ c.holder.ensures
-    c.in-Some.id c.in-Some.is _ c.node-node.ensures _ _ c.vertex.ensures c.offered-edge.ensures
-
-pub extended-requires-after_bounds : goal.extended-requires-after_bounds
-extended-requires-after_bounds g c κs within =
-    let laws = (g.met.L.Label g.world.𝓛 g.world.𝓜 g.world.𝓡 ((λ s x. x), (λ x. x), (λ x. x), λ x. x)).laws in
-    turn_extends g.L.Label.algebra laws _ _ c.self.invariant.0 c.self.view_is _ c.holder.ensures
-    c.in-Some.id c.in-Some.is _ c.node-node.ensures _ _ c.vertex.ensures c.offered-edge.ensures _ c.out_degree.ensures c.if-edge-out_degree.true
-
-pub offer-requires-clause-can : goal.offer-requires-clause-can
-offer-requires-clause-can g c κs within =
-    let laws = (g.met.L.Label g.world.𝓛 g.world.𝓜 g.world.𝓡 ((λ s x. x), (λ x. x), (λ x. x), λ x. x)).laws in
-    may_offer g.L.Label.algebra laws _ _ c.self.invariant.0 c.self.view_is _ c.holder.ensures
-    c.in-Some.id c.in-Some.is _ c.node-node.ensures _ _ c.vertex.ensures c.offered-edge.ensures _ c.out_degree.ensures c.if-edge-out_degree.true _ c.holder-holder.ensures
-
-pub offer-requires-clause-comes : goal.offer-requires-clause-comes
-offer-requires-clause-comes g c κs within =
-    let a = g.L.Label.algebra in
-    let e : ComesWith a c.args.self.now (Offer c.in-Some.id c.offered-edge.result) (Some c.in_ok-twin-in-Some.twin) = c.in_ok-twin-in-Some.ensures in
-    (e.0, e.1, same_Some c.in_ok-twin-in-Some.twin (extended a (setting_of c.args.self.now) e.0.label c.offered-edge.result) e.2)
-
-pub close-requires-after_bounds : goal.close-requires-after_bounds
-close-requires-after_bounds g c κs within =
-    let laws = (g.met.L.Label g.world.𝓛 g.world.𝓜 g.world.𝓡 ((λ s x. x), (λ x. x), (λ x. x), λ x. x)).laws in
-    may_close g.L.Label.algebra laws _ _ c.self.invariant.0 c.self.view_is _ c.holder.ensures
-    c.in-Some.id c.in-Some.is _ c.node-node.ensures _ _ c.vertex.ensures c.offered-edge.ensures _ c.out_degree.ensures c.if-edge-out_degree.false _ c.holder-holder.ensures
-
 pub returns-in-None-clause-turn : goal.returns-in-None-clause-turn
 returns-in-None-clause-turn g c =
     let laws = (g.met.L.Label g.world.𝓛 g.world.𝓜 g.world.𝓡 ((λ s x. x), (λ x. x), (λ x. x), λ x. x)).laws in
     turn_take g.L.Label.algebra laws _ _ c.self.invariant.0 c.self.view_is _ c.holder.ensures
     c.args.worker c.take.new.self c.take.result c.in-None.is c.take.ensures
 
-pub returns-in_ok-twin-in-Some-clause-turn : goal.returns-in_ok-twin-in-Some-clause-turn
-returns-in_ok-twin-in-Some-clause-turn g c =
-    let laws = (g.met.L.Label g.world.𝓛 g.world.𝓜 g.world.𝓡 ((λ s x. x), (λ x. x), (λ x. x), λ x. x)).laws in
-    turn_offer g.L.Label.algebra laws _ _ c.self.invariant.0 c.self.view_is _ c.holder.ensures
-    c.in-Some.id c.in-Some.is _ c.node-node.ensures _ _ c.vertex.ensures c.offered-edge.ensures _ c.out_degree.ensures c.if-edge-out_degree.true c.args.worker _
-    c.offer.new.self c.offer.result c.holder-holder.ensures c.offer.ensures
+pub go_on-requires-after_bounds : goal.go_on-requires-after_bounds
+go_on-requires-after_bounds g c κs within =
+    ap (λ (x : View _). earliest (λ (h : Held _). is_taken h.node) (held_offset g.L.Label.algebra) x.nodes) (sym c.self.view_is) ∙ (sym c.holder.ensures ∙ c.in-Some.is)
 
-pub returns-else-edge-out_degree-clause-turn : goal.returns-else-edge-out_degree-clause-turn
-returns-else-edge-out_degree-clause-turn g c =
-    let laws = (g.met.L.Label g.world.𝓛 g.world.𝓜 g.world.𝓡 ((λ s x. x), (λ x. x), (λ x. x), λ x. x)).laws in
-    turn_close g.L.Label.algebra laws _ _ c.self.invariant.0 c.self.view_is _ c.holder.ensures
-    c.in-Some.id c.in-Some.is _ c.node-node.ensures _ _ c.vertex.ensures c.offered-edge.ensures _ c.out_degree.ensures c.if-edge-out_degree.false c.args.worker _
-    c.close.new.self c.close.result c.holder-holder.ensures c.close.ensures
+pub returns-in-Some-clause-turn : goal.returns-in-Some-clause-turn
+returns-in-Some-clause-turn g c = c.go_on.ensures.turn c.args.worker
