@@ -13,3 +13,8 @@ mod FrontRows
 mod NeedsRows
 mod TreeRows
 mod StateRows
+mod ShortRows
+mod FrontierRows
+mod GreatestRows
+mod ResponseRows
+mod GeneratedRows

@@ -34,7 +34,7 @@ no_walk_gains g a b hs fits some u vs is =
     omega (arith, ints, r, s)
 
 -- An edge to another vertex is no edge to v.
-other_edge : (from to p : ℕ) (edges : List Edge) (v : ℕ) → (to ≡ v → ⊥) → sep_in (edge from to p ∷ edges) v ≡ sep_in edges v
+pub other_edge : (from to p : ℕ) (edges : List Edge) (v : ℕ) → (to ≡ v → ⊥) → sep_in (edge from to p ∷ edges) v ≡ sep_in edges v
 unfolding sep_in
 other_edge from to p edges v other = ap (λ b. if b then Some p else sep_in edges v) (ne_eqb to v other)
 

@@ -12,10 +12,10 @@ use Rattle.drt_rows.proofs.Sets.{vertex, edge, looped, task_a, task_b, short}
 name_T : IsName (codes "T")
 name_T = record { not_empty = lit≤ tt; at_most_32 = lit≤ tt; bytes = All-cons IsNameByte 84 [] (inl (inl (inr (lit≤ tt, lit≤ tt)))) (All-nil IsNameByte) }
 
-name_a : IsName (codes "a")
+pub name_a : IsName (codes "a")
 name_a = record { not_empty = lit≤ tt; at_most_32 = lit≤ tt; bytes = All-cons IsNameByte 97 [] (inl (inr (lit≤ tt, lit≤ tt))) (All-nil IsNameByte) }
 
-short_is_task : IsTask 1 short
+pub short_is_task : IsTask 1 short
 short_is_task = record {
   name = name_T;
   priority = (lit≤ tt, lit≤ tt);
