@@ -3,6 +3,7 @@
 use Rattle.std.proofs.Common.{◌≡◌, ℕ, zero, suc, ◌+◌, ◌*◌, ◌<◌, ◌≤◌, ◌⊎◌, inl, inr, List, [], ◌∷◌, length, Some, refl, sym, ap, ◌∙◌, lit<, lit≤, arith}
 use Rattle.std.proofs.lemmas.Option.{none-some}
 use Rattle.drt_model.specs.Walk.{sep_in, or_zero, gap, wcet, deadline, work, span, last_of, IsEdge, IsPath}
+use Rattle.drt_graph.proofs.WalkLabels.{label_of_parts, parts_of}
 use Rattle.drt_wave.specs.Greatest.{HasWalk, IsGreatestWork, IsWalkInRange}
 use Rattle.drt_rows.specs.Row.{graph}
 use Rattle.drt_rows.proofs.Sets.{edge}
@@ -20,23 +21,25 @@ record Parts (v s x : ℕ) : Type 0 where
   works : work graph (first ∷ others) ≡ x
 
 parts : (v s x : ℕ) → HasWalk graph 5 v s x → Parts v s x
-parts v s x (u, others, w) = record {
-  first = u;
-  others = others;
-  is_vertex = w.is_vertex;
-  path = w.path;
+parts v s x w = let of = parts_of w.label in record {
+  first = w.first;
+  others = w.others;
+  is_vertex = w.label.is_vertex;
+  path = w.label.path;
   range = w.range;
-  ends = w.vertex;
-  spans = w.offset;
-  works = w.works;
+  ends = sym of.vertex;
+  spans = sym of.offset;
+  works = sym of.works;
 }
 
 whole : (v s x : ℕ) → Parts v s x → HasWalk graph 5 v s x
-whole v s x p = (
-  p.first,
-  p.others,
-  record { is_vertex = p.is_vertex; path = p.path; range = p.range; vertex = p.ends; offset = p.spans; works = p.works },
-)
+whole v s x p = record {
+  first = p.first;
+  others = p.others;
+  label = label_of_parts graph p.first p.others (record { vertex = v; offset = s; work = x }) p.is_vertex p.path
+      (record { vertex = sym p.ends; offset = sym p.spans; works = sym p.works });
+  range = p.range;
+}
 
 -- Each edge leads to m, out of p and q after 1 and out of m after 3.
 no_edge : (u v d : ℕ) → (2 ≡ v → ⊥) → sep_in (edge u 2 d ∷ []) v ≡ Some (or_zero (sep_in (edge u 2 d ∷ []) v)) → ⊥
