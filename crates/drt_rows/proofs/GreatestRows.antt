@@ -179,7 +179,14 @@ greatest_m_3 = (λ some. walk_mm, most)
   where
     walk_mm : HasWalk graph 5 2 3 2
     walk_mm = whole 2 3 2 (record {
-      first = 2; others = 2 ∷ []; is_vertex = lit< tt; path = (refl, tt); range = (lit≤ tt, lit≤ tt); ends = refl; spans = refl; works = refl;
+      first = 2;
+      others = 2 ∷ [];
+      is_vertex = lit< tt;
+      path = (refl, tt);
+      range = (lit≤ tt, lit≤ tt);
+      ends = refl;
+      spans = refl;
+      works = refl;
     })
 
     most : (y : ℕ) → HasWalk graph 5 2 3 y → y ≤ 2
@@ -189,7 +196,14 @@ greatest_m_3 = (λ some. walk_mm, most)
 alone : (u : ℕ) → u < 3 → deadline graph u ≤ 5 → HasWalk graph 5 u 0 (wcet graph u)
 unfolding work span
 alone u h within = whole u 0 (wcet graph u) (record {
-  first = u; others = []; is_vertex = h; path = tt; range = omega (arith, within); ends = refl; spans = refl; works = omega arith;
+  first = u;
+  others = [];
+  is_vertex = h;
+  path = tt;
+  range = omega (arith, within);
+  ends = refl;
+  spans = refl;
+  works = omega arith;
 })
 
 at_0 : (v y : ℕ) → HasWalk graph 5 v 0 y → y ≤ wcet graph v
