@@ -1,10 +1,7 @@
 -- What is written is the verdict.
-use Rattle.std.proofs.Common.{◌≡◌, ◌<◌, ◌⊎◌, ℕ, List, Result, Ok, Err, IfOk, codes, ◌++◌, inl, inr, refl, ◌∙◌, arith}
+use Rattle.std.proofs.Common.{◌≡◌, ◌<◌, ◌⊎◌, ℕ, List, Result, Ok, Err, IfOk, codes, inl, inr, arith}
 use Rattle.drt_model.specs.Schedulable.{Schedulable}
-use Rattle.drt_file.specs.trusted.Canonical.{canonical, written}
-use Rattle.drt_claims.specs.Rates.{IsAtOne}
 use Rattle.drt_claims.specs.Statement.{Statement}
-use Rattle.drt_evidence.specs.Text.{evidence_lines, head_lines, text}
 use Rattle.drt_check.specs.Judging.{IsSoundJudgement}
 use Rattle.drt_check.specs.declared.judgement.Judgement.{Judgement}
 use Rattle.drt_check.specs.declared.judgement.Judgement.TheVariants as judgements
@@ -12,23 +9,22 @@ use Rattle.drt_command.specs.declared.report.Report.{Report}
 use Rattle.drt_command.specs.declared.report.Unmade.{Unmade}
 use Rattle.drt_command_check.specs.Check.{Checks, check_rules, judged_status, verdict}
 use Rattle.drt_command_check.specs.Verdict.{Verdict}
-
-text_is : (s : Statement) → text s ≡ written (head_lines s.policy) ++ (canonical s.set ++ written (evidence_lines s.evidence))
-unfolding text
-text_is s = refl
+use Rattle.drt_command_files.specs.AtOne.{IsUtilisationOne}
+use Rattle.drt_command_files.proofs.Abouts.{about_of}
+use Rattle.drt_command_files.proofs.AtOneLemmas.{one_of}
 
 -- What a status and a line say of a dossier.
 abbrev Says : Statement → ℕ → List ℕ → Type 0
 Says s status line =
     ((status ≡ 0) × (line ≡ codes "schedulable\n") × Schedulable s.set.tasks s.policy)
     ⊎ (((status ≡ 1) × (line ≡ codes "unschedulable\n") × ¬ Schedulable s.set.tasks s.policy)
-    ⊎ (((status ≡ 2) × (line ≡ codes "utilisation-one\n") × IsAtOne s.set.tasks)
+    ⊎ (((status ≡ 2) × (line ≡ codes "utilisation-one\n") × IsUtilisationOne s.set.tasks)
     ⊎ ((status ≡ 3) × (line ≡ codes "nothing-to-check\n"))))
 
 says : (s : Statement) (j : Judgement) (status : ℕ) (line : List ℕ) → IsSoundJudgement s j → status ≡ judged_status j → status < 4 → line ≡ verdict j → Says s status line
 says s judgements.Schedulable status line sound is low line_is = inl (is, line_is, sound)
 says s judgements.Unschedulable status line sound is low line_is = inr (inl (is, line_is, sound))
-says s judgements.UtilisationOne status line sound is low line_is = inr (inr (inl (is, line_is, sound)))
+says s judgements.UtilisationOne status line sound is low line_is = inr (inr (inl (is, line_is, one_of s.set.tasks sound)))
 says s judgements.NothingToCheck status line sound is low line_is = inr (inr (inr (is, line_is)))
 says s (judgements.Rejected number) status line sound is low line_is = absurd (omega (arith, is, low))
 
@@ -36,8 +32,7 @@ verdict_of : (bytes : List ℕ) (m : Report) → Checks bytes m → Verdict byte
 verdict_of bytes m d = record {
   policy = d.of.statement.policy;
   set = d.of.statement.set;
-  rest = written (evidence_lines d.of.statement.evidence);
-  about = d.of.dossier.is.is ∙ text_is d.of.statement;
+  about = about_of d.of.statement bytes d.of.dossier.is;
   answer = says d.of.statement d.judgement m.status m.text d.of.sound d.status_is d.not_rejected d.text_is;
 }
 

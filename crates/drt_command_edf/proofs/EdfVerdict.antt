@@ -4,13 +4,14 @@ use Rattle.drt_model.specs.Contents.{Contents}
 use Rattle.drt_model.specs.Schedulable.{Schedulable}
 use Rattle.drt_model.specs.declared.jobs.Policy.{Policy}
 use Rattle.drt_model.specs.declared.jobs.Policy.TheVariants.{Edf}
-use Rattle.drt_claims.specs.Rates.{IsAtOne}
 use Rattle.drt_claims.specs.declared.evidence.Evidence.TheVariants.{EdfYes, EdfNo, UtilisationOne, Undecided}
 use Rattle.drt_outcome.specs.declared.outcome.Trail.{Trail}
 use Rattle.drt_command.specs.declared.report.Report.{Report}
 use Rattle.drt_command.specs.declared.report.Unmade.{Unmade}
+use Rattle.drt_command_files.specs.AtOne.{IsUtilisationOne}
 use Rattle.drt_command_files.specs.Verdicts.{IsAbout, SetVerdict}
 use Rattle.drt_command_files.proofs.Abouts.{about_of}
+use Rattle.drt_command_files.proofs.AtOneLemmas.{one_of}
 use Rattle.drt_command_edf.specs.Besides.{Besides, under_edf}
 use Rattle.drt_command_edf.specs.Edf.{edf_rules}
 use Rattle.drt_command_edf.proofs.EdfLemmas.{IsEdfAnswer}
@@ -20,13 +21,14 @@ abbrev Says : Contents → ℕ → Type 0
 Says set status =
     ((status ≡ 0) × Schedulable set.tasks Edf)
     ⊎ (((status ≡ 1) × ¬ Schedulable set.tasks Edf)
-    ⊎ (((status ≡ 2) × ◌≡◌ {A = Policy} Edf Edf × IsAtOne set.tasks)
+    ⊎ (((status ≡ 2) × ◌≡◌ {A = Policy} Edf Edf × IsUtilisationOne set.tasks)
     ⊎ (status ≡ 3)))
 
 says : (set : Contents) (budget status : ℕ) (written : List ℕ) (trail : Trail) → IsEdfAnswer set budget status written trail → IsAbout Edf set written × Says set status
 says set budget status written trail (inl a) = (about_of (under_edf set (EdfYes a.1.ratios a.1.fronts)) written a.1.is.is, inl (a.0, a.1.yes.schedulable))
 says set budget status written trail (inr (inl a)) = (about_of (under_edf set (EdfNo a.1.releases a.1.miss)) written a.1.is.is, inr (inl (a.0, a.1.no.not_schedulable)))
-says set budget status written trail (inr (inr (inl a))) = (about_of (under_edf set (UtilisationOne a.1.ratios)) written a.1.is.is, inr (inr (inl (a.0, refl, a.1.one.at_one))))
+says set budget status written trail (inr (inr (inl a))) =
+    (about_of (under_edf set (UtilisationOne a.1.ratios)) written a.1.is.is, inr (inr (inl (a.0, refl, one_of set.tasks a.1.one.at_one))))
 says set budget status written trail (inr (inr (inr a))) = (about_of (under_edf set Undecided) written a.1.is, inr (inr (inr a.0)))
 
 verdict_of : (budget : ℕ) (bytes : List ℕ) (m : Report) → Besides budget bytes m → SetVerdict Edf bytes m

@@ -1,3 +1,5 @@
 pub mod TaskFileLemmas
 pub mod SpotLemmas
 pub mod Abouts
+pub mod AboutOne
+pub mod AtOneLemmas

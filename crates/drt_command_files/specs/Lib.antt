@@ -1,3 +1,4 @@
+pub mod AtOne
 pub mod Edges
 pub mod TaskFiles
 pub mod Dossiers

@@ -1,3 +1,4 @@
+mod Heads
 mod Joined
 mod MarginPromises
 mod Spots

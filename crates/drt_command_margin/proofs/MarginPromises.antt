@@ -5,7 +5,6 @@ use Rattle.drt_model.specs.Schedulable.{Schedulable}
 use Rattle.drt_model.specs.declared.jobs.Policy.{Policy}
 use Rattle.drt_model.specs.declared.jobs.Policy.TheVariants.{Edf, Fixed}
 use Rattle.drt_file.specs.trusted.Laws.{TextsReadAsOneSet}
-use Rattle.drt_claims.specs.Rates.{IsAtOne}
 use Rattle.drt_claims.specs.declared.evidence.Evidence.{Evidence}
 use Rattle.drt_claims.specs.declared.evidence.Evidence.TheVariants.{EdfYes, EdfNo, UtilisationOne, FixedYes, FixedStates, FixedNo, Undecided}
 use Rattle.drt_margin.specs.Answers.{IsMarginAnswer, IsOtherFor}
@@ -16,12 +15,15 @@ use Rattle.drt_outcome.specs.declared.fault.Fault.{Fault}
 use Rattle.drt_command.specs.declared.report.Report.{Report}
 use Rattle.drt_command.specs.declared.report.Unmade.{Unmade}
 use Rattle.drt_command.specs.Rules.{AreLawful}
+use Rattle.drt_command_files.specs.AtOne.{IsUtilisationOne}
 use Rattle.drt_command_files.specs.Dossiers.{evidence_status}
 use Rattle.drt_command_files.specs.Spots.{IsSpot}
 use Rattle.drt_command_files.specs.TaskFiles.{IsAccepted}
 use Rattle.drt_command_margin.specs.Besides.{Besides, IsReportOf}
 use Rattle.drt_command_margin.specs.Margin.{HasNoSpot, IsMarginFault, IsProbed, margin_rules, policy_of}
 use Rattle.drt_command_margin.specs.Verdict.{IsMarginText, Verdict}
+use Rattle.drt_command_margin.proofs.Heads.{behind_head, head_is}
+use Rattle.drt_command_files.proofs.AtOneLemmas.{one_of}
 use Rattle.drt_command_files.proofs.TaskFileLemmas.{accepted_one, accepted_well, fault_one, long_file}
 
 -- What the verdict says of a status and a text.
@@ -29,7 +31,7 @@ abbrev IsVerdict : Policy → Contents → ℕ → ℕ → ℕ → List ℕ → 
 IsVerdict policy set k v status written =
     ((status ≡ 0) × IsMarginText policy set k v written)
     ⊎ (((status ≡ 1) × (Schedulable set.tasks policy → ⊥))
-    ⊎ (((status ≡ 2) × (policy ≡ Edf) × IsAtOne set.tasks)
+    ⊎ (((status ≡ 2) × (policy ≡ Edf) × IsUtilisationOne set.tasks)
     ⊎ (status ≡ 3)))
 
 -- The verdict of a set that isn't a yes as it is.
@@ -37,7 +39,7 @@ at_zero : (policy : Policy) (set : Contents) (k v : ℕ) (written : List ℕ) (e
     → IsVerdict policy set k v (evidence_status evidence) written
 at_zero Edf set k v written (EdfYes ratios fronts) a = absurd (a.kind tt)
 at_zero Edf set k v written (EdfNo releases miss) a = inr (inl (refl, a.verdict.0.not_schedulable))
-at_zero Edf set k v written (UtilisationOne ratios) a = inr (inr (inl (refl, refl, a.verdict.0.at_one)))
+at_zero Edf set k v written (UtilisationOne ratios) a = inr (inr (inl (refl, refl, one_of set.tasks a.verdict.0.at_one)))
 at_zero Edf set k v written (FixedYes trees proofs) a = absurd (a.kind tt)
 at_zero Edf set k v written (FixedStates tails searches) a = absurd (a.kind tt)
 at_zero Edf set k v written (FixedNo releases miss) a = absurd a.verdict.0
@@ -55,7 +57,15 @@ verdict : (policy : Policy) (set : Contents) (k v budget : ℕ) (answer : Margin
     → (m : Report) → IsReportOf policy set k v answer m → IsVerdict policy set k v m.status m.text
 verdict policy set k v budget (answers.Found add within next) a m is =
     subst (λ (x : Report). IsVerdict policy set k v x.status x.text) (sym is)
-    (inl (refl, record { add = add; margin = a.margin; rest = _; is = refl }))
+    (inl (
+      refl,
+      record {
+        add = add;
+        margin = a.margin;
+        rest = behind_head policy set k v add within next;
+        is = head_is policy set k v add within next;
+      },
+    ))
 verdict policy set k v budget (answers.AtZero evidence) a m is =
     subst (λ (x : Report). IsVerdict policy set k v x.status x.text) (sym is) (at_zero policy set k v _ evidence a)
 verdict policy set k v budget (answers.Beyond add beyond) a m is = absurd is

@@ -1,2 +1,4 @@
 pub mod ResponsePromises
+mod ResponseLines
+mod ResponseVertices
 mod ResponseVerdict

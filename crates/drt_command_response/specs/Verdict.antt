@@ -1,23 +1,35 @@
 -- The verdict of `response`: the greatest response time of each vertex under fixed priorities.
-use Rattle.std.specs.Prelude.{◌≡◌, ℕ, ◌⊎◌, List, All, length, map}
+use Rattle.std.specs.Prelude.{◌≡◌, ℕ, ◌+◌, ◌⊎◌, Bool, List, [], ◌∷◌, ◌++◌, All, length, map, filter, slice_index_or, codes, bytes_eq}
+use Rattle.std.specs.List.{range_with_len}
 use Rattle.drt_model.specs.Contents.{Contents}
+use Rattle.drt_model.specs.declared.tasks.Task.{Task}
 use Rattle.drt_model.specs.declared.jobs.Policy.TheVariants.{Fixed}
 use Rattle.drt_model.specs.Schedulable.{Schedulable}
 use Rattle.drt_busy.specs.Response.{IsGreatestResponse}
-use Rattle.drt_response.specs.Answers.{respondent, vertices_of}
-use Rattle.drt_responses.specs.Text.{response_text}
+use Rattle.drt_file.specs.trusted.Line.{said}
+use Rattle.drt_responses.specs.Text.{response_line}
 use Rattle.drt_responses.specs.declared.response.Response.{Response}
 use Rattle.drt_command.specs.declared.report.Report.{Report}
 use Rattle.drt_command_files.specs.TaskFiles.{IsAccepted}
 use Rattle.drt_command_files.specs.Verdicts.{IsAbout}
 
--- The set is schedulable, and the text says the greatest response time of each vertex of each task, in order of the file.
+-- A line is that of a response: its first field is `response`.
+abbrev pub is_response : List (List ℕ) → Bool
+is_response words = bytes_eq (slice_index_or words 0 []) (codes "response")
+
+-- The vertices of tasks, of which the first has the number k, in order: each by the numbers of its task and of itself.
+abbrev pub vertices_from : ℕ → List Task → List (ℕ × ℕ)
+vertices_from k [] = []
+vertices_from k (t ∷ tasks) = map (λ v. (k, v)) (range_with_len 0 (length t.vertices)) ++ vertices_from (k + 1) tasks
+
+-- The set is schedulable, and the text has a line for each vertex of each task, in order of the file, with its greatest response time; none of
+-- its other lines is that of a response.
 pub record IsGreatestText (set : Contents) (written : List ℕ) : Type 0 where
   pub schedulable : Schedulable set.tasks Fixed
   pub responses : List Response
-  pub are : map respondent responses ≡ vertices_of set.tasks (length set.tasks)
+  pub are : map (λ r. (r.task, r.vertex)) responses ≡ vertices_from 0 set.tasks
   pub greatest : All (λ r. IsGreatestResponse set.tasks r.task r.vertex r.ticks) responses
-  pub is : written ≡ response_text responses
+  pub lines : filter is_response (said written) ≡ map response_line responses
 
 -- The bytes are an accepted file. At status 0 the text says the greatest responses of its set; at 1 the set isn't schedulable; at 3 nothing is
 -- decided. At the latter two what is written is about the set.

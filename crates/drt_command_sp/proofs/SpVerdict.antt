@@ -4,11 +4,11 @@ use Rattle.drt_model.specs.Contents.{Contents}
 use Rattle.drt_model.specs.Schedulable.{Schedulable}
 use Rattle.drt_model.specs.declared.jobs.Policy.{Policy}
 use Rattle.drt_model.specs.declared.jobs.Policy.TheVariants.{Edf, Fixed}
-use Rattle.drt_claims.specs.Rates.{IsAtOne}
 use Rattle.drt_claims.specs.declared.evidence.Evidence.TheVariants.{FixedNo, Undecided}
 use Rattle.drt_outcome.specs.declared.outcome.Trail.{Trail}
 use Rattle.drt_command.specs.declared.report.Report.{Report}
 use Rattle.drt_command.specs.declared.report.Unmade.{Unmade}
+use Rattle.drt_command_files.specs.AtOne.{IsUtilisationOne}
 use Rattle.drt_command_files.specs.Verdicts.{IsAbout, SetVerdict}
 use Rattle.drt_command_files.proofs.Abouts.{about_of}
 use Rattle.drt_sp.specs.Evidence.{under_fixed}
@@ -21,7 +21,7 @@ abbrev Says : Contents → ℕ → Type 0
 Says set status =
     ((status ≡ 0) × Schedulable set.tasks Fixed)
     ⊎ (((status ≡ 1) × ¬ Schedulable set.tasks Fixed)
-    ⊎ (((status ≡ 2) × ◌≡◌ {A = Policy} Fixed Edf × IsAtOne set.tasks)
+    ⊎ (((status ≡ 2) × ◌≡◌ {A = Policy} Fixed Edf × IsUtilisationOne set.tasks)
     ⊎ (status ≡ 3)))
 
 says : (set : Contents) (budget status : ℕ) (written : List ℕ) (trail : Trail) → IsSpAnswer set budget status written trail → IsAbout Fixed set written × Says set status

@@ -8,7 +8,7 @@ mod WalkRows
 mod UtilisationRows
 mod HorizonRows
 mod RequestRows
-mod PotentialRows
+pub mod PotentialRows
 mod FrontRows
 mod NeedsRows
 mod TreeRows

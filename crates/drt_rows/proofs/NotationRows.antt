@@ -1,8 +1,10 @@
 -- The words of the standard library that definitions are written in, each on an example.
 use Rattle.std.proofs.Common.{◌≡◌, ℕ, ◌+◌, ◌-◌, ◌/◌, ◌^◌, ◌<◌, [], ◌∷◌, ◌++◌, refl, lit<}
 use Rattle.std.proofs.lemmas.Fmt.{decimal-digits_of}
-use Rattle.std.specs.Prelude.{List, true, false, not, ◌&&◌, ◌||◌, ◌==◌, nat_lt, nat_le, if◌then◌else◌, None, Some, length, map, filter, flat_map, count_by}
-use Rattle.std.specs.Prelude.{slice_get, slice_index, slice_index_or, slice_set, option_map, option_and_then, unwrap_or, codes, decimal, IsSomeAnd, IfSome, IsTrue}
+use Rattle.std.specs.Prelude.{List, true, false, not, ◌&&◌, ◌||◌, ◌==◌, nat_lt, nat_le, if◌then◌else◌, None, Some, length, map, filter, flat_map}
+use Rattle.std.specs.Prelude.{count_by}
+use Rattle.std.specs.Prelude.{slice_get, slice_index, slice_index_or, slice_set, option_map, option_and_then, unwrap_or, codes, bytes_eq}
+use Rattle.std.specs.Prelude.{decimal, IsSomeAnd, IfSome, IsTrue}
 use Rattle.std.specs.List.{range_with_len, join_with_byte, list_all}
 
 pub a_power : 2 ^ 3 ≡ 8
@@ -76,6 +78,9 @@ and_then = refl
 
 pub or_else : ◌≡◌ {A = ℕ} (unwrap_or None 6) 6
 or_else = refl
+
+pub not_the_same : bytes_eq (codes "end") (codes "edge") ≡ false
+not_the_same = refl
 
 pub bytes_of_a_word : codes "end" ≡ 101 ∷ 110 ∷ 100 ∷ []
 bytes_of_a_word = refl

@@ -13,7 +13,7 @@ use Rattle.drt_graph.specs.RatioRules.{FitPotentials}
 use Rattle.drt_model.specs.Utilisation.{BoundsCycles, IsRatio}
 use Rattle.drt_graph.proofs.Bounds.{rises}
 use Rattle.drt_model.specs.declared.tasks.Edge.{Edge}
-use Rattle.drt_rows.proofs.Sets.{apart, edge, short, too_long}
+use Rattle.drt_rows.proofs.Sets.{apart, edge, half, short, too_long}
 use Rattle.drt_rows.proofs.UtilisationRows.{fraction, lowest}
 use Rattle.drt_rows.proofs.WalkRows.{g, cycle_ab}
 
@@ -102,6 +102,22 @@ unfolding work span sep_in or_zero
 loop_ratio_is = record {
   lowest = lowest;
   least = no_cycle_gains (digraph_of short) 2 5 (pos 0 ∷ []) loop_fits;
+  cycle = 0 ∷ [];
+  has = ((refl, tt), refl, lit≤ tt);
+}
+
+-- One vertex (1, 2) with a loop of 2 has the ratio 1/2.
+half_fits : FitPotentials (digraph_of half) 1 2 (pos 0 ∷ [])
+unfolding sep_in
+half_fits zero zero p e = let s : 2 ≡ p = same_Some 2 p e in omega (arith, ints, s)
+half_fits zero (suc v) p e = absurd (none-some p (sym (other_edge 0 0 2 [] (suc v) (λ h. omega (arith, h))) ∙ e))
+half_fits (suc u) v p e = absurd (none-some p e)
+
+pub half_ratio_is : IsRatio (digraph_of half) (fraction 1 2)
+unfolding work span sep_in or_zero
+half_ratio_is = record {
+  lowest = IsGcd-swap 2 1 1 (IsGcd-from_mod 2 1 1 (IsGcd-from_zero 1 0 refl));
+  least = no_cycle_gains (digraph_of half) 1 2 (pos 0 ∷ []) half_fits;
   cycle = 0 ∷ [];
   has = ((refl, tt), refl, lit≤ tt);
 }

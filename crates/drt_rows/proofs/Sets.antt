@@ -42,6 +42,10 @@ worked = release 0 0 0 2 ∷ release 0 0 4 2 ∷ release 1 0 0 3 ∷ []
 abbrev pub short : Task
 short = looped (codes "T") 1 2 5 5
 
+-- One vertex (1, 2) with a loop of 2.
+abbrev pub half : Task
+half = looped (codes "T") 1 1 2 2
+
 -- One vertex (6, 5), without an edge and with a loop of 5.
 abbrev pub too_long : Task
 too_long = lone (codes "T") 1 6 5

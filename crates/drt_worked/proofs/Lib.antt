@@ -8,3 +8,5 @@ mod JudgementRows
 mod EnoughRows
 mod AcceptedRows
 mod EagerRows
+mod OneRows
+mod ResponseTextRows
