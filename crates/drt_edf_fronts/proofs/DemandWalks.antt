@@ -3,10 +3,11 @@ use Rattle.std.proofs.Common.{◌≡◌, ℕ, suc, ◌<◌, ◌≤◌, ◌⊎◌
 use Rattle.std.specs.Prelude.{max, nat_le, Contains}
 use Rattle.std.proofs.lemmas.Bool.{cases_lt, leb-true}
 use Rattle.drt_model.specs.Digraph.{Digraph}
-use Rattle.drt_model.specs.Walk.{last_of, deadline}
 use Rattle.drt_graph.specs.declared.front.FrontEntry.{FrontEntry}
 use Rattle.drt_graph.proofs.Paths.{work_none}
 use Rattle.drt_graph.specs.FrontEntry.{due}
+use Rattle.drt_graph.specs.WalkLabel.{demand_of}
+use Rattle.drt_graph.proofs.WalkLabels.{parts_of}
 use Rattle.drt_demand.specs.Dbf.{dbf_at}
 use Rattle.drt_edf_fronts.specs.DemandWalk.{IsGreatestDue, IsDemandWalkTo}
 use Rattle.drt_edf_fronts.specs.LabelFronts.{IsDemandWalk}
@@ -62,10 +63,8 @@ none_due g front t i all less = go (demand_reached g front t)
 pub some_walk : (g : Digraph) (front : List FrontEntry) (t : ℕ) (last : FrontEntry) → IsGreatestDue g front t (Some last) → (walk : List ℕ) → IsDemandWalkTo g last walk → IsDemandWalk g front t walk
 some_walk g front t last is [] w = absurd w
 some_walk g front t last is (u ∷ others) w =
-    let d : deadline g (last_of u others) ≡ deadline g last.vertex = ap (λ v. deadline g v) w.vertex in
-    let o = w.offset in
-    let l = is.1 in
-    record { walk_is = (w.is_vertex, w.path); due = omega (arith, d, o, l); all = w.works ∙ is.2 }
+    let near : due g (demand_of g u others) ≤ t = subst (λ x. due g x ≤ t) w.is is.1 in
+    record { walk_is = (w.is_vertex, w.path); due = omega (arith, near); all = sym (parts_of w).works ∙ is.2 }
 
 -- No walk, where there is no demand.
 pub no_walk : (g : Digraph) (front : List FrontEntry) (t : ℕ) → IsGreatestDue g front t None → IsDemandWalk g front t []

@@ -4,38 +4,29 @@ use Rattle.std.specs.Prelude.{IsTrue}
 use Rattle.std.proofs.lemmas.Bool.{leb-true, le-leb}
 use Rattle.std.proofs.lemmas.Bool.Decides.{nat_tests}
 use Rattle.std.proofs.lemmas.List.{reverse-append}
-use Rattle.drt_graph.specs.FrontEntry.{Covers}
+use Rattle.drt_graph.specs.FrontEntry.{due, Covers}
+use Rattle.drt_graph.specs.WalkLabel.{demand_of, IsLabelOf}
+use Rattle.drt_graph.proofs.WalkLabels.{same_entry, more, label_one, label_more, label_vertex}
 use Rattle.drt_model.specs.Digraph.{Digraph, IsSoundGraph, IsConstrainedGraph, vertex_count, out_degree, edge_of}
 use Rattle.drt_model.specs.Walk.{gap, wcet, deadline, sep, IsEdge, IsPath, last_of, span, work}
 use Rattle.drt_graph.proofs.Edges.{sep_of_edge, edge_of_sep, gap_of, source_of}
-use Rattle.drt_graph.proofs.Paths.{path_both, path_within, last_both, work_cons, work_none, span_cons, span_none}
+use Rattle.drt_graph.proofs.Paths.{last_both, work_cons, work_none, span_cons, span_none}
 use Rattle.drt_graph.specs.declared.front.FrontEntry.{FrontEntry}
 use Rattle.drt_demand.specs.Demand.{demand_algebra, opening_entry, extend, entry_dominates}
 use Rattle.drt_demand.specs.Laws.{demand_laws}
-use Rattle.drt_demand.specs.WalkLabel.{demand_of}
-use Rattle.drt_demand.proofs.WalkLabels.{walk_labels}
 use Rattle.drt_table.specs.Machine.{Setting, in_range, extended}
 use Rattle.drt_table.specs.Walk.{WalkTo, IsWalkLabel}
 use Rattle.drt_table.specs.Cover.{IsNonDominated as IsAlone}
 use Rattle.drt_table.proofs.Walks.{walk_vertex, walk_range}
 use Rattle.drt_wave.specs.Fronts.{IsWalkEntry, IsNonDominatedEntry}
 
--- Two labels with the same parts are equal.
-pub same_label : (x y : FrontEntry) → x.vertex ≡ y.vertex → x.offset ≡ y.offset → x.work ≡ y.work → x ≡ y
-same_label x y p q r =
-    ap (λ v. record { vertex = v; offset = x.offset; work = x.work }) p
-    ∙ (ap (λ o. record { vertex = y.vertex; offset = o; work = x.work }) q
-    ∙ ap (λ w. record { vertex = y.vertex; offset = y.offset; work = w }) r)
-
 -- A walk given backwards, forwards: its first vertex, those after it, and its label.
 pub record IsPathTo (g : Digraph) (v : ℕ) (before : List ℕ) (l : FrontEntry) : Type 0 where
   pub first : ℕ
   pub others : List ℕ
   pub forward : reverse (v ∷ before) ≡ first ∷ others
-  pub is_vertex : first < vertex_count g
-  pub path : IsPath g first others
   pub last : last_of first others ≡ v
-  pub label : l ≡ demand_of g first others
+  pub label : IsLabelOf g first others l
 
 -- On a path with constrained deadlines the first job is due by the last one's deadline.
 pub path_due : (g : Digraph) → IsSoundGraph g → IsConstrainedGraph g → (u : ℕ) (vs : List ℕ) → IsPath g u vs → deadline g u ≤ span g u vs + deadline g (last_of u vs)
@@ -62,27 +53,22 @@ module _ (t : Setting) (sound : IsSoundGraph t.graph) where
   path_more : (v : ℕ) (u : ℕ) (before : List ℕ) (l m : FrontEntry) (k : ℕ) → IsPathTo t.graph u before m → m.vertex ≡ u
       → k < out_degree t.graph u → (edge_of t.graph u k).to ≡ v → l ≡ extended demand_algebra t m k → IsPathTo t.graph v (u ∷ before) l
   path_more v u before l m k p at lt to is =
-      let lu : u < vertex_count t.graph = subst (λ x. x < vertex_count t.graph) p.last (path_within t.graph sound p.first p.others p.is_vertex p.path) in
+      let lu : u < vertex_count t.graph = subst (λ x. x < vertex_count t.graph) at (label_vertex t.graph p.first p.others m sound p.label) in
       let named : sep t.graph u v ≡ Some (edge_of t.graph u k).sep = subst (λ x. sep t.graph u x ≡ Some (edge_of t.graph u k).sep) to (sep_of_edge t.graph sound u k lu lt) in
       let g = gap_of t.graph u v (edge_of t.graph u k).sep named in
-      let step : IsEdge t.graph (last_of p.first p.others) v = subst (λ x. IsEdge t.graph x v) (sym p.last) g.1 in
+      let step : IsEdge t.graph m.vertex v = subst (λ x. IsEdge t.graph x v) (sym at) g.1 in
+      let same : more t.graph m v ≡ l = ap (λ x. extend m (gap t.graph x v) v (wcet t.graph v)) at ∙ sym (is ∙ extended_is m u k v (gap t.graph u v) at (sym g.0) to) in
       record {
         first = p.first;
         others = p.others ++ v ∷ [];
         forward = reverse-append (v ∷ []) (u ∷ before) ∙ ap (λ xs. xs ++ v ∷ []) p.forward;
-        is_vertex = p.is_vertex;
-        path = path_both t.graph p.first p.others (v ∷ []) p.path (step, tt);
         last = last_both p.first p.others (v ∷ []);
-        label =
-            is ∙ (extended_is m u k v (gap t.graph u v) at (sym g.0) to
-            ∙ (ap (λ x. extend x (gap t.graph u v) v (wcet t.graph v)) p.label
-            ∙ (ap (λ x. extend (demand_of t.graph p.first p.others) (gap t.graph x v) v (wcet t.graph v)) (sym p.last)
-            ∙ sym ((walk_labels t.graph).extended p.first p.others v))));
+        label = subst (IsLabelOf t.graph p.first (p.others ++ v ∷ [])) same (label_more t.graph p.first p.others m v p.label step);
       }
 
   -- A walk of the search is a path.
   pub path_to : (v : ℕ) (before : List ℕ) (l : FrontEntry) → WalkTo demand_algebra t v before l → IsPathTo t.graph v before l
-  path_to v [] l w = record { first = v; others = []; forward = refl; is_vertex = w.0; path = tt; last = refl; label = w.1 ∙ sym ((walk_labels t.graph).opened v t.bound) }
+  path_to v [] l w = record { first = v; others = []; forward = refl; last = refl; label = subst (IsLabelOf t.graph v []) (sym w.1) (label_one t.graph v w.0) }
   path_to v (u ∷ before) l w =
       path_more v u before l w.1 w.0 (path_to u before w.1 w.2) (walk_vertex demand_algebra demand_laws t u before w.1 w.2) w.3 w.4 w.5
 
@@ -90,16 +76,7 @@ module _ (t : Setting) (sound : IsSoundGraph t.graph) where
   pub walk_entry : (l : FrontEntry) → IsWalkLabel demand_algebra t l → IsWalkEntry t.graph t.bound l
   walk_entry l w =
       let p = path_to w.0 w.1 l w.2 in
-      record {
-        first = p.first;
-        others = p.others;
-        is_vertex = p.is_vertex;
-        path = p.path;
-        vertex = ap (λ x. x.vertex) p.label;
-        offset = ap (λ x. x.offset) p.label;
-        works = ap (λ x. x.work) p.label;
-        within = due_of_range l (walk_range demand_algebra demand_laws t w.0 w.1 l w.2);
-      }
+      record { first = p.first; others = p.others; label = p.label; within = due_of_range l (walk_range demand_algebra demand_laws t w.0 w.1 l w.2) }
 
   module _ (con : IsConstrainedGraph t.graph) where
     -- The label of a walk that goes on from u over these vertices.
@@ -113,7 +90,7 @@ module _ (t : Setting) (sound : IsSoundGraph t.graph) where
         let at = walk_vertex demand_algebra demand_laws t u before m w in
         let s = span_none t.graph u in
         let n = work_none t.graph in
-        (u, before, subst (λ x. WalkTo demand_algebra t u before x) (same_label m (gone m u []) at (omega (arith, s)) (omega (arith, n))) w)
+        (u, before, subst (λ x. WalkTo demand_algebra t u before x) (same_entry m (gone m u []) at (omega (arith, s)) (omega (arith, n))) w)
     walk_on u before m w (v ∷ vs) p d =
         let at = walk_vertex demand_algebra demand_laws t u before m w in
         let k = edge_of_sep t.graph u v (gap t.graph u v) p.0 in
@@ -125,22 +102,19 @@ module _ (t : Setting) (sound : IsSoundGraph t.graph) where
         let range : IsTrue (in_range demand_algebra t x) = le-leb (m.offset + gap t.graph u v + deadline t.graph v) t.bound (omega (arith, s, first, d)) in
         let walk : WalkTo demand_algebra t v (u ∷ before) x = (k.0, m, w, k.1, k.2, is, range) in
         let rest = walk_on v (u ∷ before) x walk vs p.1 (omega (arith, s, d)) in
-        subst (λ y. IsWalkLabel demand_algebra t y) (same_label (gone x v vs) (gone m u (v ∷ vs)) refl (omega (arith, s)) (omega (arith, n))) rest
+        subst (λ y. IsWalkLabel demand_algebra t y) (same_entry (gone x v vs) (gone m u (v ∷ vs)) refl (omega (arith, s)) (omega (arith, n))) rest
 
     -- An entry of a walk is the label of a walk of the search.
     pub entry_walk : (e : FrontEntry) → IsWalkEntry t.graph t.bound e → IsWalkLabel demand_algebra t e
     entry_walk e w =
         let x : FrontEntry = opening_entry w.first (wcet t.graph w.first) t.bound in
-        let first = path_due t.graph sound con w.first w.others w.path in
-        let o = w.offset in
-        let v = w.vertex in
-        let within : span t.graph w.first w.others + deadline t.graph (last_of w.first w.others) ≤ t.bound
-        = subst (λ y. span t.graph w.first w.others + deadline t.graph y ≤ t.bound) v (let h = w.within in omega (arith, h, o)) in
+        let first = path_due t.graph sound con w.first w.others w.label.path in
+        let within : due t.graph (demand_of t.graph w.first w.others) ≤ t.bound = subst (λ y. due t.graph y ≤ t.bound) w.label.is w.within in
         let range : IsTrue (in_range demand_algebra t x) = le-leb (0 + deadline t.graph w.first) t.bound (omega (arith, first, within)) in
         let n = work_cons t.graph w.first w.others in
-        let r = w.works in
-        let rest = walk_on w.first [] x (w.is_vertex, refl, range) w.others w.path (omega (arith, within)) in
-        subst (λ y. IsWalkLabel demand_algebra t y) (same_label (gone x w.first w.others) e (sym v) (omega (arith, o)) (omega (arith, n, r))) rest
+        let rest = walk_on w.first [] x (w.label.is_vertex, refl, range) w.others w.label.path (omega (arith, within)) in
+        let same : gone x w.first w.others ≡ demand_of t.graph w.first w.others = same_entry _ _ refl (omega arith) (omega (arith, n)) in
+        subst (λ y. IsWalkLabel demand_algebra t y) (same ∙ sym w.label.is) rest
 
     -- A label that no different one dominates is an entry that no other one covers.
     pub entry_alone : (l : FrontEntry) → IsAlone demand_algebra t l → IsNonDominatedEntry (IsWalkEntry t.graph t.bound) l

@@ -6,15 +6,16 @@ use Rattle.std.proofs.lemmas.List.Elements.{All-contains}
 use Rattle.drt_model.specs.Digraph.{Digraph, IsSoundGraph, IsConstrainedGraph, vertex_count}
 use Rattle.drt_model.specs.Walk.{wcet, deadline, gap, IsEdge, IsPath, last_of, work, span}
 use Rattle.drt_graph.proofs.Edges.{edge_of_sep, source_of, target_of}
-use Rattle.drt_graph.proofs.Paths.{path_both, last_both, work_both, span_both, work_cons, work_none, span_cons, span_none}
+use Rattle.drt_graph.proofs.Paths.{work_cons, work_none, span_cons, span_none}
+use Rattle.drt_graph.specs.WalkLabel.{demand_of}
+use Rattle.drt_graph.proofs.WalkLabels.{same_entry, HasParts, parts_of, label_of_parts, more, label_more, label_single}
 use Rattle.drt_graph.specs.declared.front.FrontEntry.{FrontEntry}
 use Rattle.drt_graph.specs.FrontEntry.{due}
 use Rattle.drt_claims.specs.Fronts.{IsEntryWithin}
 use Rattle.drt_edf_fronts.specs.DemandWalk.{IsPrefixLabel, IsDemandWalkTo}
 use Rattle.drt_edf_fronts.specs.LabelFronts.{IsLabelFront}
 use Rattle.drt_wave.specs.Fronts.{IsWalkEntry, IsNonDominatedEntry}
-use Rattle.drt_edf_fronts.proofs.WalkEntries.{walk_entry, walk_entry_is}
-use Rattle.drt_edf_fronts.proofs.LabelWalks.{same_label}
+use Rattle.drt_edf_fronts.proofs.WalkEntries.{walk_entry_is}
 
 -- A path that isn't empty goes on by an edge from the end of a shorter one.
 record HasLastEdge (g : Digraph) (u : ℕ) (vs : List ℕ) : Type 0 where
@@ -45,43 +46,11 @@ last_edge g u v (x ∷ vs) p =
 moved : (g : Digraph) (x y v : ℕ) → x ≡ y → IsEdge g x v → IsEdge g y v
 moved g x y v e h = subst (λ z. IsEdge g z v) e h
 
--- A label of a walk that goes on by an edge.
-abbrev more : Digraph → FrontEntry → ℕ → FrontEntry
-more g e v = record { vertex = v; offset = e.offset + gap g e.vertex v; work = e.work + wcet g v }
-
 -- Where it is due within the bound it is one of a walk.
 pub walk_more : (g : Digraph) (bound : ℕ) (e : FrontEntry) → IsWalkEntry g bound e → (v : ℕ) → IsEdge g e.vertex v → e.offset + gap g e.vertex v + deadline g v ≤ bound
-    → IsWalkEntry g bound (record { vertex = v; offset = e.offset + gap g e.vertex v; work = e.work + wcet g v })
+    → IsWalkEntry g bound (more g e v)
 walk_more g bound e walk v edge near =
-    let edge_on : IsEdge g (last_of walk.first walk.others) v = moved g e.vertex (last_of walk.first walk.others) v walk.vertex edge in
-    let gap_on : gap g (last_of walk.first walk.others) v ≡ gap g e.vertex v = ap (λ x. gap g x v) (sym walk.vertex) in
-    let s = span_both g walk.first walk.others (v ∷ []) in
-    let s1 = span_cons g (last_of walk.first walk.others) v [] in
-    let s2 = span_none g v in
-    let o = walk.offset in
-    let w = work_both g (walk.first ∷ walk.others) (v ∷ []) in
-    let w1 = work_cons g v [] in
-    let w2 = work_none g in
-    let n = walk.works in
-    record {
-      first = walk.first;
-      others = walk.others ++ v ∷ [];
-      is_vertex = walk.is_vertex;
-      path = path_both g walk.first walk.others (v ∷ []) walk.path (edge_on, tt);
-      vertex = sym (last_both walk.first walk.others (v ∷ []));
-      offset = omega (arith, s, s1, s2, gap_on, o);
-      works = omega (arith, w, w1, w2, n);
-      within = near;
-    }
-
--- A walk of span 0 is one vertex.
-pub single_work : (g : Digraph) → IsSoundGraph g → (u : ℕ) (vs : List ℕ) → IsPath g u vs → span g u vs ≡ 0 → work g (u ∷ vs) ≡ wcet g (last_of u vs)
-single_work g sound u [] p none = let w = work_cons g u [] in let n = work_none g in omega (arith, w, n)
-single_work g sound u (v ∷ vs) p none =
-    let t = target_of g sound u v (gap g u v) p.0 in
-    let s = span_cons g u v vs in
-    let l = t.1 in
-    absurd (omega (arith, l, s, none))
+    record { first = walk.first; others = walk.others ++ v ∷ []; label = label_more g walk.first walk.others e v walk.label edge; within = near }
 
 module _ (g : Digraph) (sound : IsSoundGraph g) (bound : ℕ) (front : List FrontEntry) (is : IsLabelFront g bound front) where
   -- An entry is the label of a walk.
@@ -95,7 +64,7 @@ module _ (g : Digraph) (sound : IsSoundGraph g) (bound : ℕ) (front : List Fron
   pub entry_single : (e : FrontEntry) → Contains front e → e.offset ≡ 0 → e.work ≡ wcet g e.vertex
   entry_single e has none =
       let w = entry_walk e has in
-      w.works ∙ (single_work g sound w.first w.others w.path (sym w.offset ∙ none) ∙ ap (λ v. wcet g v) (sym w.vertex))
+      label_single g w.first w.others e sound w.label none
 
   module _ (con : IsConstrainedGraph g) where
     -- Any other has an entry from which an edge leads to it.
@@ -114,18 +83,21 @@ module _ (g : Digraph) (sound : IsSoundGraph g) (bound : ℕ) (front : List Fron
         by_edge : HasLastEdge g alone.label.first alone.label.others → (d : FrontEntry) × Contains front d × IsPrefixLabel g d e
         by_edge r =
             let first = alone.label.first in
+            let others = alone.label.others in
+            let label = alone.label.label in
+            let parts = parts_of label in
             let u = last_of first r.before in
-            let v : last_of first alone.label.others ≡ e.vertex = sym alone.label.vertex in
+            let v : last_of first others ≡ e.vertex = sym parts.vertex in
             let edge : IsEdge g u e.vertex = subst (λ x. IsEdge g u x) v r.edge in
-            let gaps : gap g u (last_of first alone.label.others) ≡ gap g u e.vertex = ap (λ x. gap g u x) v in
-            let costs : wcet g (last_of first alone.label.others) ≡ wcet g e.vertex = ap (λ x. wcet g x) v in
+            let gaps : gap g u (last_of first others) ≡ gap g u e.vertex = ap (λ x. gap g u x) v in
+            let costs : wcet g (last_of first others) ≡ wcet g e.vertex = ap (λ x. wcet g x) v in
             let k = edge_of_sep g u e.vertex (gap g u e.vertex) edge in
             let near = con u k.0 (source_of g sound u e.vertex (gap g u e.vertex) edge) k.1 in
             let sep = k.3 in
             let s = r.spans in
-            let o = alone.label.offset in
+            let o = parts.offset in
             let within : due g e ≤ bound = alone.label.within in
-            let c = is.covers (walk_entry g first r.before) (walk_entry_is g bound first r.before alone.label.is_vertex r.path (omega (arith, near, sep, s, gaps, o, within))) in
+            let c = is.covers (demand_of g first r.before) (walk_entry_is g bound first r.before label.is_vertex r.path (omega (arith, near, sep, s, gaps, o, within))) in
             let there : Contains front c.1 = (c.0, c.2, c.3) in
             let vertex : c.1.vertex ≡ u = c.4.0 in
             let on : IsEdge g c.1.vertex e.vertex = moved g u c.1.vertex e.vertex (sym vertex) edge in
@@ -133,16 +105,19 @@ module _ (g : Digraph) (sound : IsSoundGraph g) (bound : ℕ) (front : List Fron
             let early = c.4.1 in
             let much = c.4.2 in
             let w = r.works in
-            let w1 = work_cons g first alone.label.others in
+            let w1 = work_cons g first others in
             let w2 = work_cons g first r.before in
-            let n = alone.label.works in
+            let n = parts.works in
             (c.1, there, prefix c.1 there on (omega (arith, gap_on, early, s, gaps, o)) (omega (arith, much, w, w1, w2, n, costs)))
 
         split : (vs : List ℕ) → alone.label.others ≡ vs → (d : FrontEntry) × Contains front d × IsPrefixLabel g d e
         split [] at =
-            let o : e.offset ≡ 0 = alone.label.offset ∙ (ap (λ vs. span g alone.label.first vs) at ∙ span_none g alone.label.first) in
+            let first = alone.label.first in
+            let o : e.offset ≡ 0 = (parts_of alone.label.label).offset ∙ (ap (λ vs. span g first vs) at ∙ span_none g first) in
             absurd (omega (arith, o, later))
-        split (v ∷ vs) at = by_edge (subst (HasLastEdge g alone.label.first) (sym at) (last_edge g alone.label.first v vs (subst (IsPath g alone.label.first) at alone.label.path)))
+        split (v ∷ vs) at =
+            let first = alone.label.first in
+            by_edge (subst (HasLastEdge g first) (sym at) (last_edge g first v vs (subst (IsPath g first) at alone.label.label.path)))
 
 -- From one vertex there is at most one such label.
 pub one_prefix : (g : Digraph) (c d e : FrontEntry) → c.vertex ≡ d.vertex → IsPrefixLabel g c e → IsPrefixLabel g d e → c ≡ d
@@ -152,7 +127,7 @@ one_prefix g c d e vertex p q =
     let o1 = q.offset in
     let w = p.work in
     let w1 = q.work in
-    same_label c d vertex (omega (arith, gaps, o, o1)) (omega (arith, w, w1))
+    same_entry c d vertex (omega (arith, gaps, o, o1)) (omega (arith, w, w1))
 
 -- A prefix has a smaller offset.
 pub prefix_earlier : (g : Digraph) → IsSoundGraph g → (d e : FrontEntry) → IsPrefixLabel g d e → d.offset < e.offset
@@ -201,10 +176,5 @@ tail_whole g e last found walk is_vertex none single t is =
     let o = t.offset in
     let n = t.works in
     let w = work_cons g e.vertex t.others in
-    subst (IsDemandWalkTo g last) (sym (is ∙ t.forward)) (record {
-      is_vertex = is_vertex;
-      path = t.path;
-      vertex = t.vertex;
-      offset = omega (arith, o, none);
-      works = omega (arith, n, single, w);
-    })
+    let parts : HasParts g e.vertex t.others last = record { vertex = sym t.vertex; offset = omega (arith, o, none); works = omega (arith, n, single, w) } in
+    subst (IsDemandWalkTo g last) (sym (is ∙ t.forward)) (label_of_parts g e.vertex t.others last is_vertex t.path parts)

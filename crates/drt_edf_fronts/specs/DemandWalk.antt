@@ -1,9 +1,10 @@
 -- The walk of an entry of a front, found backwards over the front.
-use Rattle.std.specs.Prelude.{◌≡◌, ℕ, ◌+◌, ◌≤◌, ◌<◌, List, [], ◌∷◌, Option, Some, None, Contains, Bool, nat_lt, ◌==◌, ◌&&◌, ◌||◌}
-use Rattle.drt_model.specs.Digraph.{Digraph, vertex_count}
-use Rattle.drt_model.specs.Walk.{IsEdge, IsPath, gap, last_of, span, wcet, work}
+use Rattle.std.specs.Prelude.{◌≡◌, ℕ, ◌+◌, ◌≤◌, List, [], ◌∷◌, Option, Some, None, Contains, Bool, nat_lt, ◌==◌, ◌&&◌, ◌||◌}
+use Rattle.drt_model.specs.Digraph.{Digraph}
+use Rattle.drt_model.specs.Walk.{IsEdge, gap, wcet}
 use Rattle.drt_graph.specs.declared.front.FrontEntry.{FrontEntry}
 use Rattle.drt_graph.specs.FrontEntry.{due}
+use Rattle.drt_graph.specs.WalkLabel.{IsLabelOf}
 use Rattle.drt_demand.specs.Dbf.{dbf_at}
 
 -- An entry that is due by t and has all the demand of t; none where that is 0.
@@ -27,18 +28,10 @@ abbrev pub IsPrefixOf : Digraph → List FrontEntry → FrontEntry → ℕ → O
 IsPrefixOf g front e u None = (d : FrontEntry) → Contains front d → d.vertex ≡ u → IsPrefixLabel g d e → ⊥
 IsPrefixOf g front e u (Some d) = Contains front d × IsPrefixLabel g d e
 
--- The walk from u over the others has the label e.
-pub record IsDemandLabelOf (g : Digraph) (u : ℕ) (others : List ℕ) (e : FrontEntry) : Type 0 where
-  pub is_vertex : u < vertex_count g
-  pub path : IsPath g u others
-  pub vertex : last_of u others ≡ e.vertex
-  pub offset : span g u others ≡ e.offset
-  pub works : work g (u ∷ others) ≡ e.work
-
--- The list is such a walk.
+-- The list is a walk of the graph that has the label.
 abbrev pub IsDemandWalkTo : Digraph → FrontEntry → List ℕ → Type 0
 IsDemandWalkTo g e [] = ⊥
-IsDemandWalkTo g e (u ∷ others) = IsDemandLabelOf g u others e
+IsDemandWalkTo g e (u ∷ others) = IsLabelOf g u others e
 
 -- The entry stands below another place of a front: its vertex is less, or the same and its offset less.
 abbrev pub is_below : FrontEntry → ℕ → ℕ → Bool

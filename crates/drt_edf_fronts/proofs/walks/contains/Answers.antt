@@ -4,7 +4,7 @@ use Rattle.std.proofs.lemmas.Bool.Decides.{nat_tests}
 use Rattle.std.proofs.lemmas.List.Sorted.{IsPartitionPoint-from_clause}
 use Rattle.drt_graph.specs.declared.front.FrontEntry.{FrontEntry}
 use Rattle.drt_edf_fronts.specs.DemandWalk.{is_below}
-use Rattle.drt_edf_fronts.proofs.LabelWalks.{same_label}
+use Rattle.drt_graph.proofs.WalkLabels.{same_entry}
 use Rattle.drt_edf_fronts.proofs.Places.{entry_found, parted, place_is}
 use Rattle.drt_edf_fronts.proofs.walks.contains.Goals as goal
 
@@ -19,7 +19,7 @@ returns-in-Some c =
     let lookup = c.in-Some.ensures.lookup in
     let eq = c.eq.ensures in
     entry_found front e f place (ltb-true place (length front) (sym lookup.0)) lookup.1 (place_is front e place c.requires parts) c.eq.result
-    (λ t. same_label f e (grind (arith, nat_tests)) (grind (arith, nat_tests)) (grind (arith, nat_tests)))
+    (λ t. same_entry f e (grind (arith, nat_tests)) (grind (arith, nat_tests)) (grind (arith, nat_tests)))
     (λ same.
     let v : f.vertex ≡ e.vertex = ap (λ x. x.vertex) same in
     let o : f.offset ≡ e.offset = ap (λ x. x.offset) same in
