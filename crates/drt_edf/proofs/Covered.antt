@@ -12,8 +12,9 @@ use Rattle.drt_sweep.specs.Dues.{sum_due}
 use Rattle.drt_rates.specs.Demands.{demands}
 use Rattle.drt_horizon.specs.Laws.{IsDue, AreDue, efforts_together}
 use Rattle.drt_graph.specs.FrontEntry.{due}
+use Rattle.drt_graph.specs.WalkLabel.{demand_of}
 use Rattle.drt_edf_fronts.specs.LabelFronts.{IsLabelFront, AreLabelFronts}
-use Rattle.drt_edf_fronts.proofs.WalkEntries.{walk_entry, walk_entry_is}
+use Rattle.drt_edf_fronts.proofs.WalkEntries.{walk_entry_is}
 
 most_here : (b : Bool) (w r n : ℕ) → b ≡ true → n ≤ w → n ≤ max (cond b w 0) r
 most_here true w r n e l = omega (arith, le-max_left w r)
@@ -35,9 +36,10 @@ label_within g (x ∷ front) t n (suc k) e l at d m =
 pub walk_within : (g : Digraph) (bound t : ℕ) (front : List FrontEntry) → IsLabelFront g bound front → t ≤ bound → (w : List ℕ) → IsDue g t w → work g w ≤ dbf_at g front t
 walk_within g bound t front is l [] d = rw work_none (omega arith)
 walk_within g bound t front is l (u ∷ vs) d =
-    let c = is.covers (walk_entry g u vs) (walk_entry_is g bound u vs d.0 d.1 (omega (arith, d.2, l))) in
+    let near = d.1 in
+    let c = is.covers (demand_of g u vs) (walk_entry_is g bound u vs d.0.0 d.0.1 (omega (arith, near, l))) in
     let same : deadline g c.1.vertex ≡ deadline g (last_of u vs) = ap (deadline g) c.4.0 in
-    label_within g front t (work g (u ∷ vs)) c.0 c.1 c.2 c.3 (omega (arith, same, c.4.1, d.2)) c.4.2
+    label_within g front t (work g (u ∷ vs)) c.0 c.1 c.2 c.3 (omega (arith, same, c.4.1, near)) c.4.2
 
 -- Walks of the graphs that are due by t have together at most the demands of t.
 pub all_within : (graphs : List Digraph) (bound t : ℕ) (fronts : List (List FrontEntry)) (walks : List (List ℕ))

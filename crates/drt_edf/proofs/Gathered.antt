@@ -7,7 +7,6 @@ use Rattle.drt_sweep.specs.Dues.{sum_due}
 use Rattle.drt_rates.specs.Demands.{AreFronts, demands}
 use Rattle.drt_horizon.specs.Laws.{AreDue, efforts_together}
 use Rattle.drt_edf_fronts.specs.LabelFronts.{IsLabelFront, AreLabelFronts, IsDemandWalk, AreDemandWalks}
-use Rattle.drt_edf.proofs.Suffixes.{due_walk}
 
 -- As many of two lists of one length.
 pub taken_count : {A B : Type 0} (xs : List A) (ys : List B) (k : ℕ) → length xs ≡ length ys → length (take k xs) ≡ length (take k ys)
@@ -56,7 +55,7 @@ walks_due [] fronts t [] are = tt
 walks_due [] fronts t (w ∷ walks) are = absurd (let h = ap length are in omega (arith, h))
 walks_due (g ∷ graphs) [] t walks are = absurd are
 walks_due (g ∷ graphs) (f ∷ fronts) t [] are = absurd are
-walks_due (g ∷ graphs) (f ∷ fronts) t (w ∷ walks) are = (due_walk g t w are.0.walk_is are.0.due, walks_due graphs fronts t walks are.1)
+walks_due (g ∷ graphs) (f ∷ fronts) t (w ∷ walks) are = ((are.0.walk_is, are.0.due), walks_due graphs fronts t walks are.1)
 
 pub walks_work : (graphs : List Digraph) (fronts : List (List FrontEntry)) (t : ℕ) (walks : List (List ℕ)) → AreDemandWalks graphs fronts t walks
     → efforts_together graphs walks ≡ demands graphs fronts t

@@ -3,7 +3,7 @@ use Rattle.std.proofs.Common.{◌≡◌, ℕ, zero, suc, ◌+◌, ◌<◌, ◌�
 use Rattle.std.proofs.lemmas.List.{drop_more, length-drop}
 use Rattle.drt_model.specs.declared.tasks.Task.{Task}
 use Rattle.drt_model.specs.Digraph.{Digraph, digraph_of}
-use Rattle.drt_model.specs.Walk.{work, IsWalk, due_of}
+use Rattle.drt_model.specs.Walk.{work}
 use Rattle.drt_busy.specs.Choice.{no_task, task_at, graph_at, AreWalks, AreDueBy, efforts}
 use Rattle.drt_graph.specs.Graphs.{no_graph}
 use Rattle.drt_horizon.specs.Laws.{IsDue, AreDue, efforts_together as list_efforts}
@@ -61,22 +61,13 @@ pub efforts_listed : (tasks : List Task) (walks : ℕ → List ℕ) → efforts 
 unfolding efforts
 efforts_listed tasks walks = let h = suffix_efforts tasks walks 0 tasks refl (omega arith) in omega (arith, h)
 
--- A walk that is due by t, in either form.
-pub due_walk : (g : Digraph) (t : ℕ) (w : List ℕ) → IsWalk g w → due_of g w ≤ t → IsDue g t w
-due_walk g t [] is l = tt
-due_walk g t (u ∷ vs) is l = (is.0, is.1, l)
-
-pub walk_due : (g : Digraph) (t : ℕ) (w : List ℕ) → IsDue g t w → IsWalk g w × (due_of g w ≤ t)
-walk_due g t [] is = (tt, omega arith)
-walk_due g t (u ∷ vs) is = ((is.0, is.1), is.2)
-
 suffix_due : (tasks : List Task) (walks : ℕ → List ℕ) (t m : ℕ) (rest : List Task) → drop m tasks ≡ rest
     → AreWalks tasks walks → AreDueBy tasks walks t → AreDue t (graphs_of rest) (listed walks m rest)
 unfolding listed
 suffix_due tasks walks t m [] e are due = tt
 suffix_due tasks walks t m (x ∷ rest) e are due =
     let n = next_of tasks m x rest e in
-    let h : IsDue (digraph_of (task_at tasks m)) t (walks m) = due_walk (graph_at tasks m) t (walks m) (are m n.before) (due m n.before) in
+    let h : IsDue (digraph_of (task_at tasks m)) t (walks m) = (are m n.before, due m n.before) in
     (rw n.here at h, suffix_due tasks walks t (suc m) rest n.after are due)
 
 pub due_listed : (tasks : List Task) (walks : ℕ → List ℕ) (t : ℕ) → AreWalks tasks walks → AreDueBy tasks walks t → AreDue t (graphs_of tasks) (listed walks 0 tasks)
@@ -134,8 +125,8 @@ are_listed tasks walks t are = record {
   work_is = efforts_listed tasks (walk_at walks) ∙ ap (λ ws. list_efforts (graphs_of tasks) ws) (suffix_same walks 0 tasks walks refl (due_count t (graphs_of tasks) walks are ∙ count_of tasks));
 }
   where
-    at : (k : ℕ) → k < length tasks → IsWalk (graph_at tasks k) (walk_at walks k) × (due_of (graph_at tasks k) (walk_at walks k) ≤ t)
+    at : (k : ℕ) → k < length tasks → IsDue (graph_at tasks k) t (walk_at walks k)
     at k l =
         let c = count_of tasks in
         let h = due_at t (graphs_of tasks) walks are k (omega (arith, c, l)) in
-        walk_due (graph_at tasks k) t (walk_at walks k) (rw (graph_is tasks k l) at h)
+        rw (graph_is tasks k l) at h

@@ -1,5 +1,5 @@
 -- A yes: fronts without a time of too much demand, within the horizon.
-use Rattle.std.proofs.Common.{◌≡◌, ℕ, suc, ◌+◌, ◌*◌, ◌<◌, ◌≤◌, List, [], ◌∷◌, ◌++◌, All, length, get_or, ◌⊎◌, inl, inr, sym, ap, arith, ◌∙◌}
+use Rattle.std.proofs.Common.{ℕ, suc, ◌+◌, ◌*◌, ◌<◌, ◌≤◌, List, [], ◌∷◌, All, length, get_or, ◌⊎◌, inl, inr, ap, arith}
 use Rattle.std.specs.Prelude.{Ok, ◌^◌}
 use Rattle.std.proofs.lemmas.Bool.{cases_lt}
 use Rattle.std.proofs.lemmas.List.{get_or_default}
@@ -9,7 +9,7 @@ use Rattle.drt_model.specs.Constrained.{AreConstrained}
 use Rattle.drt_model.specs.Digraph.{Digraph, IsSoundGraph, vertex_count, out_degree, edge_of}
 use Rattle.drt_model.specs.Limits.{IsTaskSet}
 use Rattle.drt_model.specs.Schedulable.{Schedulable}
-use Rattle.drt_model.specs.Walk.{wcet, deadline, gap, IsEdge, IsPath, last_of, work, span}
+use Rattle.drt_model.specs.Walk.{wcet, deadline, work, span}
 use Rattle.drt_busy.specs.Choice.{AreWalks, AreDueBy, efforts}
 use Rattle.drt_busy.specs.Decide.{DeadlinesDecide}
 use Rattle.drt_graph.specs.Graphs.{AreGraphs}
@@ -17,7 +17,8 @@ use Rattle.drt_graph.proofs.Edges.{sep_of_edge, gap_of}
 use Rattle.drt_graph.specs.declared.front.FrontEntry.{FrontEntry}
 use Rattle.drt_ratio.specs.declared.ratio_proof.RatioProof.{RatioProof}
 use Rattle.drt_ratio.proofs.Optima.{path_sums}
-use Rattle.drt_graph.proofs.Paths.{path_both, last_both, work_both, span_both, work_cons, work_none, span_cons, span_none, path_within}
+use Rattle.drt_graph.proofs.Paths.{work_cons}
+use Rattle.drt_graph.proofs.WalkLabels.{more, parts_of, label_one, label_vertex}
 use Rattle.drt_horizon.specs.declared.answers.Horizon.TheVariants.{Under}
 use Rattle.drt_rates.specs.Demands.{demands}
 use Rattle.drt_horizon.specs.Given.{AreGiven}
@@ -32,7 +33,7 @@ use Rattle.drt_edf.specs.Answers.{IsExactEdfYes}
 use Rattle.drt_edf_fronts.specs.LabelFronts.{IsLabelFront, AreLabelFronts}
 use Rattle.drt_edf.specs.RatioClaims.{claims_of}
 use Rattle.drt_edf.specs.Walks.{IsWalkEntry, IsExactFront}
-use Rattle.drt_edf_fronts.proofs.WalkEntries.{walk_entry, walk_entry_is}
+use Rattle.drt_edf_fronts.proofs.Prefixes.{walk_more}
 use Rattle.drt_edf.proofs.Covered.{all_within}
 use Rattle.drt_edf.proofs.Planned.{claims_kept, claims_below, planned_below}
 use Rattle.drt_edf.proofs.RatioClaims.{head_of, tail_of}
@@ -78,13 +79,7 @@ each_front R bound h (g ∷ graphs) (f ∷ fronts) sound are =
 -- The walk of one vertex is covered.
 openings : (bound : ℕ) (g : Digraph) (f : List FrontEntry) → IsSoundGraph g → IsLabelFront g bound f → HasOpenings bound g f
 openings bound g f sound is v l near =
-    let s = span_none g v in
-    let c = is.covers (walk_entry g v []) (walk_entry_is g bound v [] l tt (omega (arith, s, near))) in
-    let w : work g (v ∷ []) ≡ wcet g v = work_cons g v [] ∙ (let n = work_none g in omega (arith, n)) in
-    (c.0, c.1, c.2, c.3, (c.4.0, omega (arith, s, c.4.1), omega (arith, w, c.4.2)))
-
-moved : (g : Digraph) (x y v : ℕ) → x ≡ y → IsEdge g x v → IsEdge g y v
-moved g x y v e h = rw e at h
+    is.covers (record { vertex = v; offset = 0; work = wcet g v }) record { first = v; others = []; label = label_one g v l; within = omega (arith, near) }
 
 -- A walk that goes on by an edge is covered, or due past the bound.
 extended : (bound : ℕ) (g : Digraph) (f : List FrontEntry) → IsSoundGraph g → IsLabelFront g bound f → (e : FrontEntry) → IsWalkEntry g bound e → (k : ℕ) → k < out_degree g e.vertex
@@ -96,25 +91,11 @@ extended bound g f sound is e walk k l = go (cases_lt bound (e.offset + (edge_of
     go (inl far) = inl far
     go (inr near) =
         let v = (edge_of g e.vertex k).to in
-        let vs = walk.others ++ v ∷ [] in
-        let in_graph : e.vertex < vertex_count g = rw walk.vertex (path_within g sound walk.first walk.others walk.is_vertex walk.path) in
-        let edge = sep_of_edge g sound e.vertex k in_graph l in
-        let q = gap_of g e.vertex v (edge_of g e.vertex k).sep edge in
-        let edge_on : IsEdge g (last_of walk.first walk.others) v = moved g e.vertex (last_of walk.first walk.others) v walk.vertex q.1 in
-        let gap_on : gap g (last_of walk.first walk.others) v ≡ (edge_of g e.vertex k).sep = ap (λ x. gap g x v) (sym walk.vertex) ∙ q.0 in
-        let path : IsPath g walk.first vs = path_both g walk.first walk.others (v ∷ []) walk.path (edge_on, tt) in
-        let last : last_of walk.first vs ≡ v = last_both walk.first walk.others (v ∷ []) in
-        let s = span_both g walk.first walk.others (v ∷ []) in
-        let s1 = span_cons g (last_of walk.first walk.others) v [] in
-        let s2 = span_none g v in
-        let span_is : span g walk.first vs ≡ e.offset + (edge_of g e.vertex k).sep = omega (arith, s, s1, s2, gap_on, walk.offset) in
-        let w = work_both g (walk.first ∷ walk.others) (v ∷ []) in
-        let w1 = work_cons g v [] in
-        let w2 = work_none g in
-        let work_is : work g (walk.first ∷ vs) ≡ e.work + wcet g v = omega (arith, w, w1, w2, walk.works) in
-        let d : deadline g (last_of walk.first vs) ≡ deadline g v = ap (deadline g) last in
-        let c = is.covers (walk_entry g walk.first vs) (walk_entry_is g bound walk.first vs walk.is_vertex path (omega (arith, span_is, d, near))) in
-        inr (c.0, c.1, c.2, c.3, (c.4.0 ∙ last, omega (arith, span_is, c.4.1), omega (arith, work_is, c.4.2)))
+        let in_graph : e.vertex < vertex_count g = label_vertex g walk.first walk.others e sound walk.label in
+        let q = gap_of g e.vertex v (edge_of g e.vertex k).sep (sep_of_edge g sound e.vertex k in_graph l) in
+        let gaps = q.0 in
+        let c = is.covers (more g e v) (walk_more g bound e walk v q.1 (omega (arith, gaps, near))) in
+        inr (c.0, c.1, c.2, c.3, (c.4.0, omega (arith, gaps, c.4.1), c.4.2))
 
 entry_walk : (bound : ℕ) (g : Digraph) (f : List FrontEntry) → IsLabelFront g bound f → All (IsWalkEntry g bound) f
 entry_walk bound g f is k d l = ((is.exact (get_or f k d)).0 (k, l, get_or_default f k (get_or f k d) d l)).label
@@ -171,15 +152,17 @@ short_work count spans work l m n = omega arith
 
 entry_in_range : (g : Digraph) (bound : ℕ) (e : FrontEntry) → IsSoundGraph g → bound ≤ most_horizon → IsWalkEntry g bound e → IsInRangeEntry e
 entry_in_range g bound e sound near walk =
-    let in_graph : e.vertex < vertex_count g = rw walk.vertex (path_within g sound walk.first walk.others walk.is_vertex walk.path) in
-    let sums = path_sums g sound walk.first walk.others walk.path in
+    let label = walk.label in
+    let parts = parts_of label in
+    let in_graph = label_vertex g walk.first walk.others e sound label in
+    let sums = path_sums g sound walk.first walk.others label.path in
     let w = work_cons g walk.first walk.others in
-    let one = sound.wcet walk.first walk.is_vertex in
+    let one = sound.wcet walk.first label.is_vertex in
     record {
       vertex = omega (arith, in_graph, sound.few);
       offset = omega (arith, walk.within, near);
-      work = short_work (length walk.others) (span g walk.first walk.others) e.work (omega (arith, walk.within, walk.offset, near)) sums.span_least
-          (omega (arith, w, walk.works, sums.work_most, one.1));
+      work = short_work (length walk.others) (span g walk.first walk.others) e.work (omega (arith, walk.within, parts.offset, near)) sums.span_least
+          (omega (arith, w, parts.works, sums.work_most, one.1));
     }
 
 -- The entries of a front are in range.

@@ -11,6 +11,7 @@ use Rattle.drt_model.specs.Legal.{AllNeighbours}
 use Rattle.drt_graph.specs.declared.front.FrontEntry.{FrontEntry}
 use Rattle.drt_graph.specs.Graphs.{graph_of}
 use Rattle.drt_graph.proofs.Edges.{gap_of, sep_of_edge}
+use Rattle.drt_graph.proofs.WalkLabels.{parts_of}
 use Rattle.drt_wave.specs.Fronts.{IsWalkEntry}
 use Rattle.drt_graph.specs.FrontEntry.{Covers}
 use Rattle.drt_merge.specs.Marks.{entry_of}
@@ -125,14 +126,15 @@ module _ (g h : Digraph) (bound : ℕ) (sound : IsSoundGraph g) (turned : IsTurn
     attained_at : (u : ℕ) (j : Jump) → IsOfEntry front u j → IsAttainedAt g u j
     attained_at u j source =
         let walk = walk_of_jump u j source in
-        let r = reversed g h turned walk.first walk.others walk.path in
-        let spans = r.spans in let o = walk.offset in
+        let parts = parts_of walk.label in
+        let r = reversed g h turned walk.first walk.others walk.label.path in
+        let spans = r.spans in let o = parts.offset in
         let off : span g (last_of walk.first walk.others) r.others ≡ j.offset = omega (arith, spans, o) in
-        subst (λ z. IsAttainedAt g z j) (sym walk.vertex) record {
+        subst (λ z. IsAttainedAt g z j) (sym parts.vertex) record {
           others = r.others;
           path = r.path;
           offset = off;
-          work = asks_all g 0 (last_of walk.first walk.others) r.others (j.offset + 1) (omega (arith, off)) ∙ r.works ∙ sym walk.works;
+          work = asks_all g 0 (last_of walk.first walk.others) r.others (j.offset + 1) (omega (arith, off)) ∙ r.works ∙ sym parts.works;
         }
 
     pub attained_is : IsAttained g tail

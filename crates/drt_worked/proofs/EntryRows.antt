@@ -13,17 +13,17 @@ entry v o w = record { vertex = v; offset = o; work = w }
 -- The walk q m.
 pub entry_qm : IsWalkEntry graph 5 (entry 2 1 3)
 unfolding work span sep_in or_zero
-entry_qm = record { first = 1; others = 2 ∷ []; is_vertex = lit< tt; path = (refl, tt); vertex = refl; offset = refl; works = refl; within = lit≤ tt }
+entry_qm = record { first = 1; others = 2 ∷ []; label = record { is_vertex = lit< tt; path = (refl, tt); is = refl }; within = lit≤ tt }
 
 -- The walk p m.
 pub entry_pm : IsWalkEntry graph 5 (entry 2 1 2)
 unfolding work span sep_in or_zero
-entry_pm = record { first = 0; others = 2 ∷ []; is_vertex = lit< tt; path = (refl, tt); vertex = refl; offset = refl; works = refl; within = lit≤ tt }
+entry_pm = record { first = 0; others = 2 ∷ []; label = record { is_vertex = lit< tt; path = (refl, tt); is = refl }; within = lit≤ tt }
 
 -- The walk q m m, whose last job is due at 5.
 pub entry_qmm : IsWalkEntry graph 5 (entry 2 4 4)
 unfolding work span sep_in or_zero
-entry_qmm = record { first = 1; others = 2 ∷ 2 ∷ []; is_vertex = lit< tt; path = (refl, (refl, tt)); vertex = refl; offset = refl; works = refl; within = lit≤ tt }
+entry_qmm = record { first = 1; others = 2 ∷ 2 ∷ []; label = record { is_vertex = lit< tt; path = (refl, (refl, tt)); is = refl }; within = lit≤ tt }
 
 -- The label of q m covers that of p m, and that of m m, (m, 3, 2); not that of m, (m, 0, 1), which is earlier.
 pub covers_pm : Covers 2 1 2 (entry 2 1 3)
