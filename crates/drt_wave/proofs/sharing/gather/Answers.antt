@@ -32,8 +32,8 @@ module _ (p n new hand m : ℕ) (some : 0 < p) (whole : p + n ≡ 1024) (more : 
   whole_parts : new + m ≡ 1024
   whole_parts = omega arith
 
-  fewer : m < n
-  fewer = omega arith
+one_fewer : (n m : ℕ) → n ≡ m + 1 → m < n
+one_fewer n m popped = omega arith
 
 none_counted : (x y z : ℕ) → z ≡ x + y → x ≡ 0 → y ≡ 0 → z ≡ 0
 none_counted x y z sum first second = omega arith
@@ -63,3 +63,8 @@ close-requires-clause-seat c =
     let owner = c.hands.invariant.owner in
     let all : c.hands.owner.me.0.parts ≡ 1024 = omega (arith, owner.1, c.in_default.ensures.cases.0, c.hands.hands.ok.0) in
     ((owner.2.0.0, all, refl), owner.2.1, owner.2.2)
+
+pub hands-smaller : goal.hands-smaller
+hands-smaller c =
+    let popped : length c.hands.hands.items ≡ length c.pop.new.self.items + 1 = ap length c.in-Some.ensures.items ∙ length-append c.pop.new.self.items (c.in-Some.hand ∷ []) in
+    one_fewer (length c.hands.hands.items) (length c.pop.new.self.items) popped
