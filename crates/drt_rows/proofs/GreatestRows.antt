@@ -39,11 +39,12 @@ whole v s x p = (
   record { is_vertex = p.is_vertex; path = p.path; range = p.range; vertex = p.ends; offset = p.spans; works = p.works },
 )
 
--- Each edge leads to m, out of p and q after 1 and out of m after 3.
+-- An edge to m is none to another vertex.
 no_edge : (u v d : ℕ) → (2 ≡ v → ⊥) → sep_in (edge u 2 d ∷ []) v ≡ Some (or_zero (sep_in (edge u 2 d ∷ []) v)) → ⊥
 unfolding sep_in
 no_edge u v d other e = none-some (or_zero (sep_in (edge u 2 d ∷ []) v)) (sym (other_edge u 2 d [] v other) ∙ e)
 
+-- Each edge leads to m.
 to_m : (u v : ℕ) → IsEdge graph u v → v ≡ 2
 unfolding sep_in
 to_m u (suc (suc zero)) e = refl
