@@ -1,5 +1,6 @@
 -- A run of the frontier machine on the tree of TreeRows, and a spent budget.
-use Rattle.std.proofs.Common.{◌≡◌, ℕ, zero, suc, ◌<◌, ◌≤◌, Bool, true, false, cond, List, [], ◌∷◌, Option, Some, None, length, refl, sym, ap, ◌∙◌, subst, lit<, lit≤, arith}
+use Rattle.std.proofs.Common.{◌≡◌, ℕ, zero, suc, ◌<◌, Bool, true, false, cond, List, []}
+use Rattle.std.proofs.Common.{◌∷◌, Some, None, length, refl, sym, ap, ◌∙◌, subst, lit<, lit≤, arith}
 use Rattle.std.proofs.lemmas.Option.{none-some, same_Some}
 use Rattle.drt_steps.specs.Values.{value_at}
 use Rattle.drt_tree.specs.Tree.{AreApart, IsForest, IsPair, IsUnder, LeadsToLeaf, Plain, children, leaves, node_values_in, plain}
@@ -7,7 +8,8 @@ use Rattle.drt_tree.specs.declared.node.Node.{Node}
 use Rattle.drt_tree.proofs.Trees.{leaf_below}
 use Rattle.drt_refine.specs.Combination.{Combination, is_combination_held_by, is_held_state}
 use Rattle.drt_refine.specs.Facts.{IsPassed}
-use Rattle.drt_refine.specs.Machine.{FrontierSetting, FrontierState, CanStep, IsRun, NonePasses, PassesFor, replay, is_finished, step_of, opening_state}
+use Rattle.drt_refine.specs.Machine.{FrontierSetting, FrontierState, CanStep, IsRun, NonePasses}
+use Rattle.drt_refine.specs.Machine.{PassesFor, replay, is_finished, step_of, opening_state}
 use Rattle.drt_refine.specs.declared.step.CombinationState.{CombinationState}
 use Rattle.drt_refine.specs.declared.step.CombinationState.TheVariants.{Taken as TakenBy, Passed as PassedAt, Split as SplitAt}
 use Rattle.drt_refine.specs.declared.step.FrontierEntry.{FrontierEntry}

@@ -32,9 +32,9 @@ unfolding digits generated drawn_task drawn_period drawn_vertex drawn_edges stat
 first_of_1 = refl
 
 -- There are 12 tasks. The second one's draws come after these 61: its period is 400 again, and its first vertex (7, 259).
-pub twelve : length (generated 1).tasks ≡ 12
+pub twelve_tasks : length (generated 1).tasks ≡ 12
 unfolding generated
-twelve = refl
+twelve_tasks = refl
 
 pub second_of_1 : slice_get (get_or (generated 1).tasks 1 first_task).vertices 0 ≡ Some (vertex (codes "v0") 7 259)
 unfolding digits generated drawn_task drawn_period drawn_vertex state_after

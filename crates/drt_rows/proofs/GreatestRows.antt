@@ -1,6 +1,7 @@
 -- Greatest works of p (1, 1), q (2, 1), m (1, 1) with the edges p-m 1, q-m 1 and m-m 3, and the bound 5. A walk is a vertex alone or goes on over
 -- m again and again: q m is the greatest one at (m, 1).
-use Rattle.std.proofs.Common.{◌≡◌, ℕ, zero, suc, ◌+◌, ◌*◌, ◌<◌, ◌≤◌, ◌⊎◌, inl, inr, List, [], ◌∷◌, length, Some, refl, sym, ap, ◌∙◌, lit<, lit≤, arith}
+use Rattle.std.proofs.Common.{◌≡◌, ℕ, zero, suc, ◌+◌, ◌*◌, ◌<◌, ◌≤◌, ◌⊎◌, inl, inr}
+use Rattle.std.proofs.Common.{List, [], ◌∷◌, length, Some, refl, sym, ap, ◌∙◌, lit<, lit≤, arith}
 use Rattle.std.proofs.lemmas.Option.{none-some}
 use Rattle.drt_model.specs.Walk.{sep_in, or_zero, gap, wcet, deadline, work, span, last_of, IsEdge, IsPath}
 use Rattle.drt_graph.proofs.WalkLabels.{label_of_parts, parts_of}
@@ -41,11 +42,12 @@ whole v s x p = record {
   range = p.range;
 }
 
--- Each edge leads to m, out of p and q after 1 and out of m after 3.
+-- An edge to m is none to another vertex.
 no_edge : (u v d : ℕ) → (2 ≡ v → ⊥) → sep_in (edge u 2 d ∷ []) v ≡ Some (or_zero (sep_in (edge u 2 d ∷ []) v)) → ⊥
 unfolding sep_in
 no_edge u v d other e = none-some (or_zero (sep_in (edge u 2 d ∷ []) v)) (sym (other_edge u 2 d [] v other) ∙ e)
 
+-- Each edge leads to m.
 to_m : (u v : ℕ) → IsEdge graph u v → v ≡ 2
 unfolding sep_in
 to_m u (suc (suc zero)) e = refl
@@ -66,7 +68,7 @@ IsOnM u vs = (last_of u vs ≡ 2) × (span graph u vs ≡ 3 * length vs) × (wor
 
 one_more : (v : ℕ) (vs : List ℕ) → v ≡ 2 → IsPath graph v vs → (IsPath graph 2 vs → IsOnM 2 vs) → IsOnM 2 (v ∷ vs)
 unfolding work span sep_in or_zero
-one_more v vs e p rest = rw e (let h = rest (rw e at p) in (h.0, omega (arith, h.1), omega (arith, h.2)))
+one_more v vs is path rest = rw is (let more = rest (rw is at path) in (more.0, omega (arith, more.1), omega (arith, more.2)))
 
 on_m : (vs : List ℕ) → IsPath graph 2 vs → IsOnM 2 vs
 unfolding work span
@@ -85,32 +87,32 @@ IsLonger v s x = (n : ℕ) × (k : ℕ) × (v ≡ 2) × (k ≤ 1) × (s ≡ 1 + 
 longer : (u w v s x : ℕ) (vs : List ℕ) → u < 3 → w ≡ 2 → IsPath graph w vs → last_of w vs ≡ v → span graph u (w ∷ vs) ≡ s
     → work graph (u ∷ w ∷ vs) ≡ x → IsLonger v s x
 unfolding work span sep_in or_zero
-longer zero w v s x vs h e p f g i =
-    let m = on_m vs (rw e at p) in
-    let g' = rw e at g in
-    let i' = rw e at i in
-    let f' = rw e at f in
-    (length vs, 0, sym f' ∙ m.0, omega arith, omega (arith, g', m.1), omega (arith, i', m.2))
-longer (suc zero) w v s x vs h e p f g i =
-    let m = on_m vs (rw e at p) in
-    let g' = rw e at g in
-    let i' = rw e at i in
-    let f' = rw e at f in
-    (length vs, 0, sym f' ∙ m.0, omega arith, omega (arith, g', m.1), omega (arith, i', m.2))
-longer (suc (suc zero)) w v s x vs h e p f g i =
-    let m = on_m vs (rw e at p) in
-    let g' = rw e at g in
-    let i' = rw e at i in
-    let f' = rw e at f in
-    (length vs, 1, sym f' ∙ m.0, omega arith, omega (arith, g', m.1), omega (arith, i', m.2))
-longer (suc (suc (suc u))) w v s x vs h e p f g i = absurd (omega (arith, h))
+longer zero w v s x vs within is path ends spans works =
+    let rest = on_m vs (rw is at path) in
+    let last = rw is at ends in
+    let time = rw is at spans in
+    let done = rw is at works in
+    (length vs, 0, sym last ∙ rest.0, omega arith, omega (arith, time, rest.1), omega (arith, done, rest.2))
+longer (suc zero) w v s x vs within is path ends spans works =
+    let rest = on_m vs (rw is at path) in
+    let last = rw is at ends in
+    let time = rw is at spans in
+    let done = rw is at works in
+    (length vs, 0, sym last ∙ rest.0, omega arith, omega (arith, time, rest.1), omega (arith, done, rest.2))
+longer (suc (suc zero)) w v s x vs within is path ends spans works =
+    let rest = on_m vs (rw is at path) in
+    let last = rw is at ends in
+    let time = rw is at spans in
+    let done = rw is at works in
+    (length vs, 1, sym last ∙ rest.0, omega arith, omega (arith, time, rest.1), omega (arith, done, rest.2))
+longer (suc (suc (suc u))) w v s x vs within is path ends spans works = absurd (omega (arith, within))
 
 -- Each walk is one of these.
 from_parts : (u v s x : ℕ) (others : List ℕ) → u < 3 → IsPath graph u others → last_of u others ≡ v → span graph u others ≡ s
     → work graph (u ∷ others) ≡ x → IsAlone v s x ⊎ IsLonger v s x
 unfolding work span
-from_parts u v s x [] h p f g i = inl (sym g, rw (← f) (omega (arith, i)))
-from_parts u v s x (w ∷ ws) h p f g i = inr (longer u w v s x ws h (to_m u w p.0) p.1 f g i)
+from_parts u v s x [] within path ends spans works = inl (sym spans, rw (← ends) (omega (arith, works)))
+from_parts u v s x (w ∷ ws) within path ends spans works = inr (longer u w v s x ws within (to_m u w path.0) path.1 ends spans works)
 
 each_walk : (v s x : ℕ) → HasWalk graph 5 v s x → IsAlone v s x ⊎ IsLonger v s x
 each_walk v s x w = let p = parts v s x w in from_parts p.first v s x p.others p.is_vertex p.path p.ends p.spans p.works

@@ -1,6 +1,7 @@
 -- Greatest responses under fixed priorities: T (2, 5) with a loop of 5 and, below it, L (1, 5) with a loop of 5. Whatever the releases, a job of T
--- finishes after 2 ticks, and one of L after 3.
-use Rattle.std.proofs.Common.{◌≡◌, ◌≢◌, ℕ, zero, suc, ◌+◌, ◌<◌, ◌≤◌, inl, inr, List, [], ◌∷◌, length, Some, slice_get, get_or, false, ltb, refl, sym, ap, ◌∙◌, lit<, lit≤, arith}
+-- finishes within 2 ticks of its release, and one of L within 3; and some releases reach that.
+use Rattle.std.proofs.Common.{◌≡◌, ◌≢◌, ℕ, zero, suc, ◌+◌, ◌<◌, ◌≤◌, inl, inr, List, []}
+use Rattle.std.proofs.Common.{◌∷◌, Some, slice_get, get_or, false, ltb, refl, sym, ap, ◌∙◌, lit<, lit≤, arith}
 use Rattle.std.specs.Prelude.{codes, All, AllPairs}
 use Rattle.std.proofs.lemmas.Bool.{le-ltb}
 use Rattle.std.proofs.lemmas.Option.{none-some, same_Some}
@@ -11,7 +12,7 @@ use Rattle.drt_model.specs.Limits.{IsName, IsNameByte, IsTask, IsTaskSet, IsVert
 use Rattle.drt_model.specs.Walk.{sep_in, or_zero, gap, deadline, IsEdge, IsWalk, requested_from, request_of}
 use Rattle.drt_model.specs.declared.tasks.Task.{Task}
 use Rattle.drt_busy.specs.Choice.{AreWalks, graph_at, requests}
-use Rattle.drt_busy.specs.Response.{FitsWithin, IsGreatestFit, IsGreatestResponse, IsLeastFit, MeetsDeadlines, load}
+use Rattle.drt_busy.specs.Response.{FitsWithin, IsGreatestResponse, IsLeastFit, MeetsDeadlines, load}
 use Rattle.drt_busy.proofs.FixedWalks.{times_suffice_for_task}
 use Rattle.drt_busy.proofs.Response.{response_decides}
 use Rattle.drt_rows.proofs.PotentialRows.{other_edge}
@@ -87,29 +88,29 @@ tasks_are_constrained =
     (All-cons AreConstrainedEdges lower [] (one_edge lower (lit≤ tt)) (All-nil AreConstrainedEdges))
 
 -- Before 5 a walk of T asks for at most the 2 ticks of its first job: the loop's separation is 5, and releases at 5 or later ask for nothing then.
-abbrev g : Digraph
-g = digraph_of short
+abbrev upper_graph : Digraph
+upper_graph = digraph_of short
 
-asks_late : (t x u : ℕ) (vs : List ℕ) → t ≤ x → requested_from g x u vs t ≡ 0
+asks_late : (t x u : ℕ) (vs : List ℕ) → t ≤ x → requested_from upper_graph x u vs t ≡ 0
 unfolding requested_from
 asks_late t x u [] h = let late : ltb x t ≡ false = le-ltb x t h in rw late refl
 asks_late t x u (v ∷ vs) h =
     let late : ltb x t ≡ false = le-ltb x t h in
-    let more : requested_from g (x + gap g u v) v vs t ≡ 0 = asks_late t (x + gap g u v) v vs (omega arith) in
+    let more : requested_from upper_graph (x + gap upper_graph u v) v vs t ≡ 0 = asks_late t (x + gap upper_graph u v) v vs (omega arith) in
     rw (late, more) refl
 
-spans_5 : (v : ℕ) → IsEdge g 0 v → gap g 0 v ≡ 5
+spans_5 : (v : ℕ) → IsEdge upper_graph 0 v → gap upper_graph 0 v ≡ 5
 unfolding sep_in or_zero
 spans_5 zero e = refl
-spans_5 (suc v) e = absurd (none-some (gap g 0 (suc v)) (sym (other_edge 0 0 5 [] (suc v) (λ h. omega (arith, h))) ∙ e))
+spans_5 (suc v) e = absurd (none-some (gap upper_graph 0 (suc v)) (sym (other_edge 0 0 5 [] (suc v) (λ h. omega (arith, h))) ∙ e))
 
-asks_at_most_2 : (walk : List ℕ) → IsWalk g walk → request_of g walk 3 ≤ 2
+asks_at_most_2 : (walk : List ℕ) → IsWalk upper_graph walk → request_of upper_graph walk 3 ≤ 2
 unfolding requested_from
 asks_at_most_2 [] w = lit≤ tt
 asks_at_most_2 (zero ∷ []) w = lit≤ tt
 asks_at_most_2 (zero ∷ v ∷ vs) w =
     let s = spans_5 v w.1.0 in
-    let late : requested_from g (0 + gap g 0 v) v vs 3 ≡ 0 = asks_late 3 (0 + gap g 0 v) v vs (omega (arith, s)) in
+    let late : requested_from upper_graph (0 + gap upper_graph 0 v) v vs 3 ≡ 0 = asks_late 3 (0 + gap upper_graph 0 v) v vs (omega (arith, s)) in
     omega (arith, late)
 asks_at_most_2 (suc u ∷ vs) w = absurd (omega (arith, w.0))
 
@@ -138,28 +139,28 @@ lower_meets rs legal j h is = times_suffice_for_task 1 tasks tasks_are_set tasks
     fits (suc v) h walks are = absurd (omega (arith, h))
 
 -- The walks of one release each. Without a task above it T needs 2 of the first t ticks, and with T's release at 0 above it L needs 3.
-abbrev ones : ℕ → List ℕ
-ones k = 0 ∷ []
+abbrev single_walks : ℕ → List ℕ
+single_walks k = 0 ∷ []
 
-ones_are : AreWalks tasks ones
-ones_are zero h = (lit< tt, tt)
-ones_are (suc zero) h = (lit< tt, tt)
-ones_are (suc (suc k)) h = absurd (omega (arith, h))
+are_walks : AreWalks tasks single_walks
+are_walks zero h = (lit< tt, tt)
+are_walks (suc zero) h = (lit< tt, tt)
+are_walks (suc (suc k)) h = absurd (omega (arith, h))
 
-upper_least : IsLeastFit tasks ones 0 0 2
+upper_least : IsLeastFit tasks single_walks 0 0 2
 unfolding requests requested_from
 upper_least = record { from = lit≤ tt; fits = lit≤ tt; least = least }
   where
-    least : (t : ℕ) → 1 ≤ t → load tasks ones 0 0 t ≤ t → 2 ≤ t
+    least : (t : ℕ) → 1 ≤ t → load tasks single_walks 0 0 t ≤ t → 2 ≤ t
     least zero l f = absurd (omega (arith, l))
     least (suc zero) l f = absurd (omega (arith, f))
     least (suc (suc t)) l f = omega arith
 
-lower_least : IsLeastFit tasks ones 1 0 3
+lower_least : IsLeastFit tasks single_walks 1 0 3
 unfolding requests requested_from
 lower_least = record { from = lit≤ tt; fits = lit≤ tt; least = least }
   where
-    least : (t : ℕ) → 1 ≤ t → load tasks ones 1 0 t ≤ t → 3 ≤ t
+    least : (t : ℕ) → 1 ≤ t → load tasks single_walks 1 0 t ≤ t → 3 ≤ t
     least zero l f = absurd (omega (arith, l))
     least (suc zero) l f = absurd (omega (arith, f))
     least (suc (suc zero)) l f = absurd (omega (arith, f))
@@ -169,9 +170,9 @@ lower_least = record { from = lit≤ tt; fits = lit≤ tt; least = least }
 pub upper_response : IsGreatestResponse tasks 0 0 2
 upper_response =
     (response_decides 1 tasks tasks_are_set tasks_are_constrained 0 0 (lit< tt) (lit< tt) upper_meets 2).1
-    (record { walks = ones; are = ones_are; least = upper_least; most = upper_fits })
+    (record { walks = single_walks; are = are_walks; least = upper_least; most = upper_fits })
 
 pub lower_response : IsGreatestResponse tasks 1 0 3
 lower_response =
     (response_decides 1 tasks tasks_are_set tasks_are_constrained 1 0 (lit< tt) (lit< tt) lower_meets 3).1
-    (record { walks = ones; are = ones_are; least = lower_least; most = lower_fits })
+    (record { walks = single_walks; are = are_walks; least = lower_least; most = lower_fits })

@@ -1,7 +1,7 @@
 -- Short walks at their bound, and which walk dominates which.
 use Rattle.std.proofs.Common.{◌≡◌, ℕ, zero, suc, ◌<◌, ◌≤◌, [], ◌∷◌, refl, lit<, lit≤, arith}
 use Rattle.drt_model.specs.Digraph.{Digraph, digraph_of}
-use Rattle.drt_model.specs.Walk.{sep_in, or_zero, last_of, span, request, requested_from}
+use Rattle.drt_model.specs.Walk.{sep_in, or_zero, span, request, requested_from}
 use Rattle.drt_claims.specs.Trees.{IsShortWalk, IsAbove}
 use Rattle.drt_rows.specs.Row.{graph}
 use Rattle.drt_rows.proofs.Sets.{task_a}
@@ -32,8 +32,8 @@ one_reaches_0 w = omega (arith, w.2)
 pub not_a_vertex : ¬ IsShortWalk 5 loop_of_4 (1 ∷ [])
 not_a_vertex w = let h : 1 < 1 = w.0 in omega (arith, h)
 
-pub none_is_not_short : ¬ IsShortWalk 5 loop_of_4 []
-none_is_not_short w = w
+pub empty_is_not_short : ¬ IsShortWalk 5 loop_of_4 []
+empty_is_not_short w = w
 
 -- p (1, 1), q (2, 1), m (1, 1) with the edges p-m 1, q-m 1 and m-m 3. The walks q m and p m end at m and span 1; q m asks for 2 at 1 and for 3
 -- from 2 on, p m for 1 and for 2. So q m dominates p m.
