@@ -28,7 +28,8 @@ says : (set : Contents) (budget status : ℕ) (written : List ℕ) (trail : Trai
 says set budget status written trail (inl a) = (about_of (under_edf set (EdfYes a.1.ratios a.1.fronts)) written a.1.is.is, inl (a.0, a.1.yes.schedulable))
 says set budget status written trail (inr (inl a)) = (about_of (under_edf set (EdfNo a.1.releases a.1.miss)) written a.1.is.is, inr (inl (a.0, a.1.no.not_schedulable)))
 says set budget status written trail (inr (inr (inl a))) =
-    (about_of (under_edf set (UtilisationOne a.1.ratios)) written a.1.is.is, inr (inr (inl (a.0, refl, one_of set.tasks a.1.one.at_one))))
+    let about = about_of (under_edf set (UtilisationOne a.1.ratios)) written a.1.is.is in
+    (about, inr (inr (inl (a.0, refl, one_of set.version set.tasks about.reads.limits.each a.1.one.at_one))))
 says set budget status written trail (inr (inr (inr a))) = (about_of (under_edf set Undecided) written a.1.is, inr (inr (inr a.0)))
 
 verdict_of : (budget : ℕ) (bytes : List ℕ) (m : Report) → Besides budget bytes m → SetVerdict Edf bytes m

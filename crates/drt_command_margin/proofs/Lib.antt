@@ -1,3 +1,4 @@
+mod Grown
 mod Heads
 mod Joined
 mod MarginPromises

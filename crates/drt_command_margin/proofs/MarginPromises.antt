@@ -1,9 +1,11 @@
 -- What is promised of `margin` agrees, and each answer keeps it.
 use Rattle.std.proofs.Common.{◌≡◌, ◌<◌, ◌⊎◌, ℕ, Bool, List, Result, Ok, Err, IfOk, inl, inr, refl, ap, sym, subst, arith, ◌∙◌}
 use Rattle.drt_model.specs.Contents.{Contents}
+use Rattle.drt_model.specs.Limits.{IsTaskSet}
 use Rattle.drt_model.specs.Schedulable.{Schedulable}
 use Rattle.drt_model.specs.declared.jobs.Policy.{Policy}
 use Rattle.drt_model.specs.declared.jobs.Policy.TheVariants.{Edf, Fixed}
+use Rattle.drt_model.specs.declared.tasks.Task.{Task}
 use Rattle.drt_file.specs.trusted.Laws.{TextsReadAsOneSet}
 use Rattle.drt_claims.specs.declared.evidence.Evidence.{Evidence}
 use Rattle.drt_claims.specs.declared.evidence.Evidence.TheVariants.{EdfYes, EdfNo, UtilisationOne, FixedYes, FixedStates, FixedNo, Undecided}
@@ -21,63 +23,74 @@ use Rattle.drt_command_files.specs.Spots.{IsSpot}
 use Rattle.drt_command_files.specs.TaskFiles.{IsAccepted}
 use Rattle.drt_command_margin.specs.Besides.{Besides, IsReportOf}
 use Rattle.drt_command_margin.specs.Margin.{HasNoSpot, IsMarginFault, IsProbed, margin_rules, policy_of}
-use Rattle.drt_command_margin.specs.Verdict.{IsMarginText, Verdict}
+use Rattle.drt_command_margin.specs.Text.{margin_text}
+use Rattle.drt_command_margin.specs.Verdict.{IsMarginText, Verdict, grown_tasks}
+use Rattle.drt_command_margin.proofs.Grown.{text_of}
 use Rattle.drt_command_margin.proofs.Heads.{behind_head, head_is}
 use Rattle.drt_command_files.proofs.AtOneLemmas.{one_of}
 use Rattle.drt_command_files.proofs.TaskFileLemmas.{accepted_one, accepted_well, fault_one, long_file}
 
 -- What the verdict says of a status and a text.
-abbrev IsVerdict : Policy → Contents → ℕ → ℕ → ℕ → List ℕ → Type 0
-IsVerdict policy set k v status written =
-    ((status ≡ 0) × IsMarginText policy set k v written)
+abbrev IsVerdict : Policy → Contents → (ℕ → List Task) → ℕ → List ℕ → Type 0
+IsVerdict policy set with_more status written =
+    ((status ≡ 0) × IsMarginText policy set.version with_more written)
     ⊎ (((status ≡ 1) × (Schedulable set.tasks policy → ⊥))
     ⊎ (((status ≡ 2) × (policy ≡ Edf) × IsUtilisationOne set.tasks)
     ⊎ (status ≡ 3)))
 
 -- The verdict of a set that isn't a yes as it is.
-at_zero : (policy : Policy) (set : Contents) (k v : ℕ) (written : List ℕ) (evidence : Evidence) → IsOtherFor policy set evidence
-    → IsVerdict policy set k v (evidence_status evidence) written
-at_zero Edf set k v written (EdfYes ratios fronts) a = absurd (a.kind tt)
-at_zero Edf set k v written (EdfNo releases miss) a = inr (inl (refl, a.verdict.0.not_schedulable))
-at_zero Edf set k v written (UtilisationOne ratios) a = inr (inr (inl (refl, refl, one_of set.tasks a.verdict.0.at_one)))
-at_zero Edf set k v written (FixedYes trees proofs) a = absurd (a.kind tt)
-at_zero Edf set k v written (FixedStates tails searches) a = absurd (a.kind tt)
-at_zero Edf set k v written (FixedNo releases miss) a = absurd a.verdict.0
-at_zero Edf set k v written Undecided a = absurd a.verdict.0
-at_zero Fixed set k v written (EdfYes ratios fronts) a = absurd (a.kind tt)
-at_zero Fixed set k v written (EdfNo releases miss) a = absurd a.verdict
-at_zero Fixed set k v written (UtilisationOne ratios) a = absurd a.verdict
-at_zero Fixed set k v written (FixedYes trees proofs) a = absurd (a.kind tt)
-at_zero Fixed set k v written (FixedStates tails searches) a = absurd (a.kind tt)
-at_zero Fixed set k v written (FixedNo releases miss) a = inr (inl (refl, a.verdict.not_schedulable))
-at_zero Fixed set k v written Undecided a = absurd a.verdict
+at_zero : (policy : Policy) (set : Contents) (with_more : ℕ → List Task) (written : List ℕ) (evidence : Evidence)
+    → IsTaskSet set.version set.tasks
+    → IsOtherFor policy set evidence
+    → IsVerdict policy set with_more (evidence_status evidence) written
+at_zero Edf set with_more written (EdfYes ratios fronts) limits a = absurd (a.kind tt)
+at_zero Edf set with_more written (EdfNo releases miss) limits a = inr (inl (refl, a.verdict.0.not_schedulable))
+at_zero Edf set with_more written (UtilisationOne ratios) limits a =
+    inr (inr (inl (refl, refl, one_of set.version set.tasks limits.each a.verdict.0.at_one)))
+at_zero Edf set with_more written (FixedYes trees proofs) limits a = absurd (a.kind tt)
+at_zero Edf set with_more written (FixedStates tails searches) limits a = absurd (a.kind tt)
+at_zero Edf set with_more written (FixedNo releases miss) limits a = absurd a.verdict.0
+at_zero Edf set with_more written Undecided limits a = absurd a.verdict.0
+at_zero Fixed set with_more written (EdfYes ratios fronts) limits a = absurd (a.kind tt)
+at_zero Fixed set with_more written (EdfNo releases miss) limits a = absurd a.verdict
+at_zero Fixed set with_more written (UtilisationOne ratios) limits a = absurd a.verdict
+at_zero Fixed set with_more written (FixedYes trees proofs) limits a = absurd (a.kind tt)
+at_zero Fixed set with_more written (FixedStates tails searches) limits a = absurd (a.kind tt)
+at_zero Fixed set with_more written (FixedNo releases miss) limits a = inr (inl (refl, a.verdict.not_schedulable))
+at_zero Fixed set with_more written Undecided limits a = absurd a.verdict
 
 -- The verdict of the report of an answer.
-verdict : (policy : Policy) (set : Contents) (k v budget : ℕ) (answer : MarginAnswer) → IsMarginAnswer set policy k v budget answer
-    → (m : Report) → IsReportOf policy set k v answer m → IsVerdict policy set k v m.status m.text
-verdict policy set k v budget (answers.Found add within next) a m is =
-    subst (λ (x : Report). IsVerdict policy set k v x.status x.text) (sym is)
+verdict : (policy : Policy) (task vertex : List ℕ) (set : Contents) (k v budget : ℕ) → IsTaskSet set.version set.tasks
+    → (spot : IsSpot set.tasks task vertex k v) (answer : MarginAnswer) → IsMarginAnswer set policy k v budget answer
+    → (m : Report) → IsReportOf policy set k v answer m
+    → IsVerdict policy set (grown_tasks set.tasks k spot.of v spot.at) m.status m.text
+verdict policy task vertex set k v budget limits spot (answers.Found add within next) a m is =
+    subst (λ (x : Report). IsVerdict policy set (grown_tasks set.tasks k spot.of v spot.at) x.status x.text) (sym is)
     (inl (
       refl,
-      record {
-        add = add;
-        margin = a.margin;
-        rest = behind_head policy set k v add within next;
-        is = head_is policy set k v add within next;
-      },
+      text_of policy set task vertex k v add spot (behind_head policy set k v add within next) (margin_text policy set k v add within next) a.margin
+          (head_is policy set k v add within next),
     ))
-verdict policy set k v budget (answers.AtZero evidence) a m is =
-    subst (λ (x : Report). IsVerdict policy set k v x.status x.text) (sym is) (at_zero policy set k v _ evidence a)
-verdict policy set k v budget (answers.Beyond add beyond) a m is = absurd is
-verdict policy set k v budget (answers.Undecided add trail) a m is =
-    subst (λ (x : Report). IsVerdict policy set k v x.status x.text) (sym is) (inr (inr (inr refl)))
+verdict policy task vertex set k v budget limits spot (answers.AtZero evidence) a m is =
+    subst (λ (x : Report). IsVerdict policy set (grown_tasks set.tasks k spot.of v spot.at) x.status x.text) (sym is)
+    (at_zero policy set (grown_tasks set.tasks k spot.of v spot.at) _ evidence limits a)
+verdict policy task vertex set k v budget limits spot (answers.Beyond add beyond) a m is = absurd is
+verdict policy task vertex set k v budget limits spot (answers.Undecided add trail) a m is =
+    subst (λ (x : Report). IsVerdict policy set (grown_tasks set.tasks k spot.of v spot.at) x.status x.text) (sym is) (inr (inr (inr refl)))
 
 -- The report of an answer is as promised.
 made_by : (policy : Policy) (task vertex bytes : List ℕ) (set : Contents) (k v budget : ℕ) → IsAccepted bytes set → IsSpot set.tasks task vertex k v
     → (answer : MarginAnswer) → IsMarginAnswer set policy k v budget answer → (m : Report) → IsReportOf policy set k v answer m
     → Verdict policy task vertex bytes m × Besides policy task vertex budget bytes m
 made_by policy task vertex bytes set k v budget accepted spot answer a m is = (
-  record { set = set; accepted = accepted; k = k; v = v; spot = spot; answer = verdict policy set k v budget answer a m is },
+  record {
+    set = set;
+    accepted = accepted;
+    k = k;
+    v = v;
+    spot = spot;
+    answer = verdict policy task vertex set k v budget accepted.reads.limits spot answer a m is;
+  },
   record { set = set; accepted = accepted; k = k; v = v; spot = spot; answer = answer; are = a; is = is },
 )
 

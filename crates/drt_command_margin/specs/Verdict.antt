@@ -1,19 +1,37 @@
 -- The verdict of `margin`: the greatest number of ticks by which the execution time of the named vertex can grow.
-use Rattle.std.specs.Prelude.{◌≡◌, ℕ, ◌⊎◌, List, ◌++◌, codes, decimal}
+use Rattle.std.specs.Prelude.{◌≡◌, ℕ, ◌+◌, ◌≤◌, ◌⊎◌, List, ◌++◌, codes, decimal, slice_set}
 use Rattle.drt_model.specs.Contents.{Contents}
+use Rattle.drt_model.specs.Limits.{IsTaskSet}
 use Rattle.drt_model.specs.declared.jobs.Policy.{Policy}
 use Rattle.drt_model.specs.declared.jobs.Policy.TheVariants.{Edf}
+use Rattle.drt_model.specs.declared.tasks.Task.{Task}
+use Rattle.drt_model.specs.declared.tasks.Vertex.{Vertex}
 use Rattle.drt_model.specs.Schedulable.{Schedulable}
-use Rattle.drt_margin.specs.Margin.{IsMargin}
 use Rattle.drt_command.specs.declared.report.Report.{Report}
-use Rattle.drt_command_files.specs.AtOne.{IsUtilisationOne}
+use Rattle.drt_command_files.specs.AtOne.{IsUtilisationBelowOne, IsUtilisationOne}
 use Rattle.drt_command_files.specs.Spots.{IsSpot}
 use Rattle.drt_command_files.specs.TaskFiles.{IsAccepted}
 
--- The first lines of the text say the margin of vertex v of task k.
-pub record IsMarginText (policy : Policy) (set : Contents) (k v : ℕ) (text : List ℕ) : Type 0 where
+-- The vertex with so many ticks more of execution time.
+abbrev pub grown : Vertex → ℕ → Vertex
+grown x add = record { name = x.name; wcet = x.wcet + add; deadline = x.deadline }
+
+-- The tasks with so many ticks more of vertex x, number v of task t, number k.
+abbrev pub grown_tasks : List Task → ℕ → Task → ℕ → Vertex → ℕ → List Task
+grown_tasks tasks k t v x add =
+    slice_set tasks k (record { name = t.name; priority = t.priority; vertices = slice_set t.vertices v (grown x add); edges = t.edges })
+
+-- The tasks keep the limits, are schedulable under the policy and, under EDF, have a utilisation below one.
+pub record AreWithin (policy : Policy) (version : ℕ) (tasks : List Task) : Type 0 where
+  pub limits : IsTaskSet version tasks
+  pub schedulable : Schedulable tasks policy
+  pub below_one : policy ≡ Edf → IsUtilisationBelowOne tasks
+
+-- The first lines of the text say the greatest number of ticks more with which the tasks are within.
+pub record IsMarginText (policy : Policy) (version : ℕ) (with_more : ℕ → List Task) (text : List ℕ) : Type 0 where
   pub add : ℕ
-  pub margin : IsMargin set policy k v add
+  pub within : AreWithin policy version (with_more add)
+  pub greatest : (more : ℕ) → AreWithin policy version (with_more more) → more ≤ add
   pub rest : List ℕ
   pub is : text ≡ codes "drt-margin 1\nadd " ++ (decimal add ++ (codes "\nwithin\n" ++ rest))
 
@@ -26,7 +44,7 @@ pub record Verdict (policy : Policy) (task vertex bytes : List ℕ) (made : Repo
   pub v : ℕ
   pub spot : IsSpot set.tasks task vertex k v
   pub answer :
-      ((made.status ≡ 0) × IsMarginText policy set k v made.text)
+      ((made.status ≡ 0) × IsMarginText policy set.version (grown_tasks set.tasks k spot.of v spot.at) made.text)
       ⊎ (((made.status ≡ 1) × ¬ Schedulable set.tasks policy)
       ⊎ (((made.status ≡ 2) × (policy ≡ Edf) × IsUtilisationOne set.tasks)
       ⊎ (made.status ≡ 3)))

@@ -1,8 +1,8 @@
 -- The words of the standard library that definitions are written in, each on an example.
-use Rattle.std.proofs.Common.{◌≡◌, ℕ, ◌+◌, ◌-◌, ◌/◌, ◌^◌, ◌<◌, [], ◌∷◌, ◌++◌, refl, lit<}
+use Rattle.std.proofs.Common.{◌≡◌, ℕ, ◌+◌, ◌-◌, ◌*◌, ◌/◌, ◌^◌, ◌<◌, [], ◌∷◌, ◌++◌, refl, lit<}
 use Rattle.std.proofs.lemmas.Fmt.{decimal-digits_of}
 use Rattle.std.specs.Prelude.{List, true, false, not, ◌&&◌, ◌||◌, ◌==◌, nat_lt, nat_le, if◌then◌else◌, None, Some, length, map, filter, flat_map}
-use Rattle.std.specs.Prelude.{count_by}
+use Rattle.std.specs.Prelude.{count_by, sum_by, take}
 use Rattle.std.specs.Prelude.{slice_get, slice_index, slice_index_or, slice_set, option_map, option_and_then, unwrap_or, codes, bytes_eq}
 use Rattle.std.specs.Prelude.{decimal, IsSomeAnd, IfSome, IsTrue}
 use Rattle.std.specs.List.{range_with_len, join_with_byte, list_all}
@@ -51,6 +51,12 @@ how_many_pass = refl
 
 pub not_all_pass : list_all (λ x. x == 7) (7 ∷ 3 ∷ 7 ∷ []) ≡ false
 not_all_pass = refl
+
+pub sum_of_squares : sum_by (λ x. x * x) (1 ∷ 5 ∷ []) ≡ 26
+sum_of_squares = refl
+
+pub first_one : take {A = ℕ} 1 (7 ∷ 9 ∷ []) ≡ 7 ∷ []
+first_one = refl
 
 pub from_four_on : range_with_len 4 3 ≡ 4 ∷ 5 ∷ 6 ∷ []
 from_four_on = refl
