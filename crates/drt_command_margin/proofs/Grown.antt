@@ -19,9 +19,8 @@ more_of : (tasks : List Task) (k v c : ℕ) (t : Task) (x : Vertex) → task_at 
 unfolding timed_tasks
 more_of tasks k v c t x at there =
     ap (λ (s : Task). set tasks k (timed_task s v ((get_or s.vertices v no_vertex).wcet + c))) at
-    ∙ ap
-    (λ (y : Vertex). set tasks k (record { name = t.name; priority = t.priority; vertices = set t.vertices v (timed y (y.wcet + c)); edges = t.edges }))
-    there
+    ∙ ap (λ (xs : List Vertex). set tasks k (record { name = t.name; priority = t.priority; vertices = xs; edges = t.edges }))
+    (ap (λ (y : Vertex). set t.vertices v (timed y (y.wcet + c))) there)
 
 -- The tasks with more of a named vertex.
 plus_is : (tasks : List Task) (task vertex : List ℕ) (k v c : ℕ) (s : IsSpot tasks task vertex k v)
