@@ -130,7 +130,7 @@ fn ratio(
         return Ok(Ratio::new(0, 1));
     };
     let graphs = check(alloc, &set)?;
-    let _count = graphs.count();
+    graphs.keep_limits();
     let proof = greatest(alloc, graphs.graph(0))?;
     Ok(proof.ratio)
 }

@@ -92,7 +92,7 @@ pub fn run<R: Print + Threads + Wait + Sync>(
         return Ok(());
     };
     let graphs = check(alloc, &set)?;
-    let _count = graphs.count();
+    graphs.keep_limits();
     let graph = graphs.graph(0);
     let steps = if kind == 1 {
         search_again::<RequestLabel, R>(rt, alloc, graph, bound, workers, times)?

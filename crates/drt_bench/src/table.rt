@@ -24,7 +24,7 @@ fn steps(alloc: Global, task: Task, bound: u64) -> anyhow::Result<usize>
         return Ok(0);
     };
     let graphs = check(alloc, &set)?;
-    let _count = graphs.count();
+    graphs.keep_limits();
     let table: Table<DemandLabel> = Table::start(alloc, graphs.graph(0), bound, 1_000_000)?;
     let (table, _reply): (Table<DemandLabel>, TableReply) = table.drive(alloc, 0)?;
     Ok(table.log().len())

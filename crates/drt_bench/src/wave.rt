@@ -97,7 +97,7 @@ fn labels<R: Threads + Wait + Sync>(
         return Ok(0);
     };
     let graphs = check(alloc, &set)?;
-    let _count = graphs.count();
+    graphs.keep_limits();
     let graph = graphs.graph(0);
     if graph.vertex_count() as u64 * (bound + 1) > 4_194_304 {
         return Ok(0);

@@ -1,5 +1,6 @@
 //! What two walks ask for, compared.
 ghost use Rattle.std.specs.Prelude.{◌≡◌, ℕ, ◌↔◌, ◌<◌, ◌≤◌, IsTrue, length};
+ghost use Rattle.drt_model.specs.Numbers.{most_work};
 ghost use Rattle.drt_model.specs.Walk.{work, span_of};
 ghost use Rattle.drt_check_trees.specs.Asking.{AsksNoLess, IsCursorPlaced, AreWalkVertices, asked_at};
 ghost use Rattle.drt_check_trees.specs.Gaps.{AreGaps};
@@ -28,7 +29,7 @@ pub(crate) fn measure(graph: &Graph, gaps: &[u32], walk: &[u32]) -> Extent
     requires within { AreWalkVertices graph.now walk.now }
     ensures span { result.span ≡ span_of graph.now walk.now }
     ensures work { result.work ≡ work graph.now walk.now }
-    ensures few { result.work ≤ 1000000000000 }
+    ensures few { result.work ≤ most_work }
 {
     graph.keep_limits();
     let mut span = 0;

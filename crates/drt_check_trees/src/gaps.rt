@@ -1,6 +1,6 @@
 //! The separations of a graph, laid out so that each is found by one look.
 ghost use Rattle.std.specs.Prelude.{◌≡◌, ◌+◌, ◌<◌, ◌≤◌, IfOk, length};
-ghost use Rattle.drt_model.specs.Numbers.{most_time};
+ghost use Rattle.drt_model.specs.Numbers.{most_time, most_work};
 ghost use Rattle.drt_model.specs.Walk.{gap};
 ghost use Rattle.drt_check_trees.specs.Asking.{AreWalkVertices};
 ghost use Rattle.drt_check_trees.specs.Gaps.{AreGaps, leap};
@@ -53,7 +53,7 @@ pub(crate) fn next_offset(
     requires gaps { AreGaps graph.now gaps.now }
     requires walk { AreWalkVertices graph.now walk.now }
     requires place { place < length walk.now }
-    requires offset { offset ≤ 1000000000000 }
+    requires offset { offset ≤ most_work }
     ensures value { result ≡ offset + leap graph.now walk.now place }
     ensures most { result ≤ offset + most_time }
 {

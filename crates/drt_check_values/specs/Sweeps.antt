@@ -2,6 +2,7 @@
 use Rattle.std.specs.Prelude.{◌≡◌, ℕ, ◌+◌, ◌<◌, ◌≤◌, ◌==◌, if◌then◌else◌, List, length, map, take, drop, All, sum_by, slice_index_or}
 use Rattle.std.specs.List.{range_with_len}
 use Rattle.std.specs.List.Sorted.{IsPermutation, IsNonDecreasingBy}
+use Rattle.drt_model.specs.Numbers.{most_work}
 use Rattle.drt_check_values.specs.declared.query.Query.{Query}
 use Rattle.drt_check_values.specs.declared.rises.Rise.{Rise}
 use Rattle.drt_check_values.specs.Greatest.{greatest}
@@ -44,7 +45,7 @@ heights rises count t = map (λ p. risen_at_place rises t p) (range_with_len 0 c
 pub record AreReady (count : ℕ) (rises : List Rise) : Type 0 where
   pub order : IsNonDecreasingBy (λ r. r.offset) rises
   pub places : All (λ r. r.place < count) rises
-  pub most : (place : ℕ) → place < count → total_at_place rises place ≤ 1000000000000
+  pub most : (place : ℕ) → place < count → total_at_place rises place ≤ most_work
 
 -- As many releases are taken in, all of them before t, and the values of the places are what they add.
 pub record IsTaken (rises : List Rise) (taken t : ℕ) (values : List ℕ) : Type 0 where

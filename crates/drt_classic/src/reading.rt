@@ -1,5 +1,6 @@
 //! Reading a classic file: once over its bytes, line by line, down to the first fault.
 ghost use Rattle.std.specs.Prelude.{◌≡◌, ◌≤◌, if◌then◌else◌, None, Some, Ok, length, map, IfOk, IfErr};
+ghost use Rattle.drt_model.specs.Numbers.{most_text};
 ghost use Rattle.drt_file.specs.trusted.Cutting.{lines};
 ghost use Rattle.drt_file.specs.trusted.Line.{is_skipped};
 ghost use Rattle.drt_classic.specs.ClassicFaults.{
@@ -121,7 +122,7 @@ fn step(
 }
 
 fn all_lines(alloc: Global, text: &[u8]) -> Result<(u32, Option<State>), ClassicError>
-    requires { length text.now ≤ 1073741824 }
+    requires { length text.now ≤ most_text }
     ensures { GivesClassic result (classic_steps 1 None (lines text.now)) }
 {
     let mut n: u32 = 1;
@@ -139,7 +140,7 @@ fn all_lines(alloc: Global, text: &[u8]) -> Result<(u32, Option<State>), Classic
 // The tasks that a text says, or its fault.
 #[tactic(auto, unfolding(crate::specs::ClassicFaults::read_classic_text))]
 fn tasks_of(alloc: Global, bytes: &[u8]) -> Result<Row<Classic>, ClassicError>
-    requires { length bytes.now ≤ 1073741824 }
+    requires { length bytes.now ≤ most_text }
     ensures { GivesClassic result (read_classic_text bytes.now) }
 {
     let (n, above) = all_lines(alloc, bytes)?;
@@ -151,7 +152,7 @@ fn tasks_of(alloc: Global, bytes: &[u8]) -> Result<Row<Classic>, ClassicError>
 /// It goes once over the bytes. A name is compared with those of the tasks above, of which there are at
 /// most 16.
 pub fn read(alloc: Global, bytes: &[u8]) -> Result<ClassicSet, ClassicError>
-    requires { length bytes.now ≤ 1073741824 }
+    requires { length bytes.now ≤ most_text }
     ensures read { IfOk result (λ set. ReadsClassic bytes.now set) }
     ensures fault { IfErr result (IsClassicCauseOf bytes.now) }
 {

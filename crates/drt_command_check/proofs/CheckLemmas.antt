@@ -1,6 +1,7 @@
 -- A dossier has one judgement or one fault.
 use Rattle.std.proofs.Common.{◌≡◌, ℕ, ◌<◌, ◌≤◌, ◌⊎◌, List, length, inl, inr, refl, sym, ap, ◌∙◌, subst, arith}
 use Rattle.std.proofs.lemmas.Bool.{cases_lt}
+use Rattle.drt_model.specs.Numbers.{most_text}
 use Rattle.drt_evidence.specs.Reading.{HasDossierFault, IsCode, IsDossierText}
 use Rattle.drt_claims.specs.Statement.{Statement}
 use Rattle.drt_check.specs.Judging.{IsStatementJudged, IsSoundJudgement}
@@ -8,7 +9,7 @@ use Rattle.drt_check.specs.Laws.{JudgedOnce}
 use Rattle.drt_check.proofs.Judged.{judged_once}
 use Rattle.drt_check.specs.declared.judgement.Judgement.{Judgement}
 use Rattle.drt_check.specs.declared.judgement.Judgement.TheVariants as judgements
-use Rattle.drt_command_check.specs.Check.{CheckEnds, Checks, IsDossierFault, judged_status, most_dossier_bytes}
+use Rattle.drt_command_check.specs.Check.{CheckEnds, Checks, IsDossierFault, judged_status}
 use Rattle.drt_command.specs.declared.report.Report.{Report}
 use Rattle.drt_outcome.specs.Stops.{fault_status}
 use Rattle.drt_outcome.specs.declared.fault.Fault.{Fault}
@@ -98,7 +99,7 @@ judged_ends bytes made m s is =
     (m.judgement, subst (λ t. IsStatementJudged t m.judgement) e m.of.judged, subst (λ t. IsSoundJudgement t m.judgement) e m.of.sound, m.status_is)
 
 -- So has one that is rejected.
-pub rejected_ends : (bytes : List ℕ) (f : Fault) → IsDossierFault bytes f → (s : Statement) → IsDossierText s bytes → length bytes ≤ most_dossier_bytes → CheckEnds s (fault_status f)
+pub rejected_ends : (bytes : List ℕ) (f : Fault) → IsDossierFault bytes f → (s : Statement) → IsDossierText s bytes → length bytes ≤ most_text → CheckEnds s (fault_status f)
 rejected_ends bytes Nothing h s is small = absurd h
 rejected_ends bytes (File l c) h s is small = absurd h
 rejected_ends bytes (Edge t e p) h s is small = absurd h

@@ -1,5 +1,6 @@
 -- What is promised of `check`: what it says of a dossier, what it refuses, and with which status it ends.
 use Rattle.std.specs.Prelude.{◌≡◌, ℕ, ◌≤◌, ◌<◌, ◌⊎◌, List, [], codes, length}
+use Rattle.drt_model.specs.Numbers.{most_text}
 use Rattle.drt_evidence.specs.Reading.{HasDossierFault, IsDossierText}
 use Rattle.drt_claims.specs.Statement.{Statement}
 use Rattle.drt_check.specs.Judging.{IsStatementJudged, IsSoundJudgement}
@@ -13,10 +14,6 @@ use Rattle.drt_command.specs.declared.input.Input.TheVariants.{AtMost}
 use Rattle.drt_command.specs.declared.report.Report.{Report}
 use Rattle.drt_command.specs.Rules.{Rules}
 use Rattle.drt_command_check.specs.Verdict.{Verdict}
-
--- A dossier that is checked has at most so many bytes.
-abbrev pub most_dossier_bytes : ℕ
-most_dossier_bytes = 1073741824
 
 -- The line of each judgement; rejected evidence has none.
 abbrev pub verdict : Judgement → List ℕ
@@ -36,7 +33,7 @@ judged_status (judgements.Rejected number) = 9
 
 -- The bytes are the text of this dossier and of no other, and aren't too many.
 pub record IsDossier (bytes : List ℕ) (s : Statement) : Type 0 where
-  pub small : length bytes ≤ most_dossier_bytes
+  pub small : length bytes ≤ most_text
   pub is : IsDossierText s bytes
   pub only : (t : Statement) → IsDossierText t bytes → t ≡ s
 
@@ -64,7 +61,7 @@ pub record IsRejected (bytes : List ℕ) (number : ℕ) : Type 0 where
 
 -- The bytes are no dossier's text, and stop being one at this line with this code.
 pub record IsNoDossier (bytes : List ℕ) (line code : ℕ) : Type 0 where
-  pub small : length bytes ≤ most_dossier_bytes
+  pub small : length bytes ≤ most_text
   pub none : (s : Statement) → ¬ IsDossierText s bytes
   pub fault : HasDossierFault bytes line code
 
@@ -77,7 +74,7 @@ IsDossierFault bytes (Edge task edge past) = ⊥
 IsDossierFault bytes (Limit code) = ⊥
 IsDossierFault bytes (Probe add code) = ⊥
 IsDossierFault bytes (Rule number) = IsRejected bytes number
-IsDossierFault bytes (Dossier line code) = ((most_dossier_bytes < length bytes) × (line ≡ 0) × (code ≡ 4)) ⊎ IsNoDossier bytes line code
+IsDossierFault bytes (Dossier line code) = ((most_text < length bytes) × (line ≡ 0) × (code ≡ 4)) ⊎ IsNoDossier bytes line code
 
 -- The status of `check` at a dossier where nothing fails: that of the dossier's judgement.
 abbrev pub CheckEnds : Statement → ℕ → Type 0
@@ -85,7 +82,7 @@ CheckEnds s status = (judgement : Judgement) × IsStatementJudged s judgement ×
 
 -- A command that reads a dossier takes at most so many bytes, else the dossier's fault 4.
 abbrev pub dossier_input : Input
-dossier_input = AtMost most_dossier_bytes (Dossier 0 4)
+dossier_input = AtMost most_text (Dossier 0 4)
 
 -- What is promised of `check`.
 abbrev pub check_rules : Rules
@@ -94,5 +91,5 @@ check_rules = record {
   makes = λ bytes made. Verdict bytes made × Checks bytes made;
   refuses = IsDossierFault;
   faults = IsDossierFault;
-  ends = λ bytes status. (s : Statement) → IsDossierText s bytes → length bytes ≤ most_dossier_bytes → CheckEnds s status;
+  ends = λ bytes status. (s : Statement) → IsDossierText s bytes → length bytes ≤ most_text → CheckEnds s status;
 }

@@ -1,7 +1,8 @@
 //! `check`: the checker's judgement of a dossier.
 ghost use Rattle.std.specs.Prelude.{◌≡◌, ◌≤◌, IfErr, IfOk, length};
+ghost use Rattle.drt_model.specs.Numbers.{most_text};
 ghost use Rattle.drt_command.specs.Rules.{IsUnmadeCause};
-ghost use Rattle.drt_command_check.specs.Check.{Checks, IsDossierFault, IsJudgementOf, check_rules, most_dossier_bytes};
+ghost use Rattle.drt_command_check.specs.Check.{Checks, IsDossierFault, IsJudgementOf, check_rules};
 
 use drt_check::{Judgement, judged_once};
 use drt_command::{Command, Input, Report, Unmade};
@@ -43,7 +44,7 @@ impl Command for Check {
 
 // The judgement of a dossier.
 fn judge(alloc: Global, bytes: &[u8]) -> Result<Judgement, Unmade>
-    requires { length bytes.now ≤ most_dossier_bytes }
+    requires { length bytes.now ≤ most_text }
     ensures judged { IfOk result (IsJudgementOf bytes.now) }
     ensures unmade { IfErr result (IsUnmadeCause IsDossierFault bytes.now) }
 {

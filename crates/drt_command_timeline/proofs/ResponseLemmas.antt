@@ -2,6 +2,7 @@
 use Rattle.std.proofs.Common.{◌∙◌, Some, None, ◌≡◌, ℕ, ◌-◌, ◌≤◌, ◌⊎◌, inl, inr, Bool, List, length, take, drop, refl, sym, subst}
 use Rattle.std.specs.Prelude.{Result, Ok, Err, IfErr, IfOk, IsErrAnd}
 use Rattle.std.proofs.lemmas.Option.{same_Some}
+use Rattle.drt_model.specs.Numbers.{most_text}
 use Rattle.drt_outcome.specs.declared.fault.Fault.TheVariants as faults
 use Rattle.drt_outcome.specs.declared.outcome.Trail.TheVariants as trails
 use Rattle.drt_model.specs.Contents.{Contents}
@@ -11,7 +12,6 @@ use Rattle.drt_command.specs.Rules.{IsUnmadeCause}
 use Rattle.drt_command.specs.declared.report.Report.{Report}
 use Rattle.drt_command.specs.declared.report.Unmade.{Unmade}
 use Rattle.drt_command.specs.declared.report.Unmade.TheVariants.{Memory, Refused}
-use Rattle.drt_command_check.specs.Check.{most_dossier_bytes}
 use Rattle.drt_command_files.specs.TaskFiles.{IsAccepted, IsFileFault}
 use Rattle.drt_responses.specs.Reading.{IsResponsesText}
 use Rattle.drt_responses.specs.declared.response.Response.{Response}
@@ -28,7 +28,7 @@ pub passed : {T : Type 0} (P : Unmade → Type 0) (r : Result T Unmade) (e : Unm
 passed P (Ok x) e is p = tt
 passed P (Err y) e is p = subst P (sym is) p
 
-pub input_at : (bytes : List ℕ) (at : ℕ) → length bytes ≤ most_dossier_bytes → IsInputCut bytes at → IsFileAndText bytes (take at bytes) (take (length bytes - at) (drop at bytes))
+pub input_at : (bytes : List ℕ) (at : ℕ) → length bytes ≤ most_text → IsInputCut bytes at → IsFileAndText bytes (take at bytes) (take (length bytes - at) (drop at bytes))
 input_at bytes at small cut = record { small = small; at = at; cut = cut; file_is = refl; text_is = rest_all bytes at }
 
 -- Where file and text are read, with the set and the responses that these say.

@@ -1,10 +1,10 @@
 -- What is promised of `timeline` of a response agrees.
 use Rattle.std.proofs.Common.{◌≡◌, ℕ, ◌<◌, Bool, List, length, inl, inr, sym, ap, ◌∙◌, subst, arith}
 use Rattle.std.proofs.lemmas.Bool.{cases_lt}
+use Rattle.drt_model.specs.Numbers.{most_text}
 use Rattle.drt_model.specs.Contents.{Contents}
 use Rattle.drt_file.specs.trusted.Laws.{TextsReadAsOneSet}
 use Rattle.drt_command.specs.Rules.{AreLawful}
-use Rattle.drt_command_check.specs.Check.{most_dossier_bytes}
 use Rattle.drt_command_files.specs.TaskFiles.{IsAccepted, IsFileFault}
 use Rattle.drt_command_files.proofs.TaskFileLemmas.{accepted_one, accepted_well, fault_one}
 use Rattle.drt_outcome.specs.declared.fault.Fault.{Fault}
@@ -17,7 +17,7 @@ use Rattle.drt_command_files.specs.Spots.{IsSpot}
 use Rattle.drt_command_files.proofs.SpotLemmas.{spot_one}
 use Rattle.drt_command_timeline.proofs.InputLemmas.{input_one}
 
-too_long : (bytes file text : List ℕ) → most_dossier_bytes < length bytes → IsFileAndText bytes file text → ⊥
+too_long : (bytes file text : List ℕ) → most_text < length bytes → IsFileAndText bytes file text → ⊥
 too_long bytes file text big input = let small = input.small in omega (arith, big, small)
 
 -- A file that is accepted has no fault.

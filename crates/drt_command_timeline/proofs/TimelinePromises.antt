@@ -1,5 +1,6 @@
 -- What is promised of `timeline` of a dossier agrees.
 use Rattle.std.proofs.Common.{◌≡◌, ℕ, ◌<◌, ◌≤◌, Bool, List, length, inl, inr, refl, sym, ap, ◌∙◌, subst, arith}
+use Rattle.drt_model.specs.Numbers.{most_text}
 use Rattle.drt_evidence.specs.Reading.{IsDossierText}
 use Rattle.drt_claims.specs.Statement.{Statement}
 use Rattle.drt_check.specs.Judging.{IsStatementJudged, IsSoundJudgement}
@@ -9,7 +10,7 @@ use Rattle.drt_check.specs.declared.judgement.Judgement.TheVariants as judgement
 use Rattle.drt_command.specs.Inputs.{IsLonger}
 use Rattle.drt_command.specs.Rules.{AreLawful}
 use Rattle.drt_command.specs.declared.report.Report.{Report}
-use Rattle.drt_command_check.specs.Check.{Checks, IsDossierFault, IsJudgementOf, dossier_input, judged_status, most_dossier_bytes, verdict}
+use Rattle.drt_command_check.specs.Check.{Checks, IsDossierFault, IsJudgementOf, dossier_input, judged_status, verdict}
 use Rattle.drt_command_check.proofs.CheckLemmas.{dossier_fault_one, judged_well}
 use Rattle.drt_outcome.specs.Stops.{fault_status}
 use Rattle.drt_outcome.specs.declared.fault.Fault.{Fault}
@@ -65,7 +66,7 @@ ends_by bytes j status of same s is =
     let e = sym (of.dossier.only s is) in
     (j, subst (λ t. IsStatementJudged t j) e of.judged, subst (λ t. IsSoundJudgement t j) e of.sound, same)
 
-refused_ends : (bytes : List ℕ) (f : Fault) → IsDossierFault bytes f → (s : Statement) → IsDossierText s bytes → length bytes ≤ most_dossier_bytes → TimelineEnds s (fault_status f)
+refused_ends : (bytes : List ℕ) (f : Fault) → IsDossierFault bytes f → (s : Statement) → IsDossierText s bytes → length bytes ≤ most_text → TimelineEnds s (fault_status f)
 refused_ends bytes Nothing h s is small = absurd h
 refused_ends bytes (File l c) h s is small = absurd h
 refused_ends bytes (Edge t e p) h s is small = absurd h
@@ -77,7 +78,7 @@ refused_ends bytes (Rule n) h s is small =
 refused_ends bytes (Dossier l c) (inl big) s is small = absurd (omega (arith, big.0, small))
 refused_ends bytes (Dossier l c) (inr lacks) s is small = absurd (lacks.none s is)
 
-fault_ends : (bytes : List ℕ) (f : Fault) → IsTimelineFault bytes f → (s : Statement) → IsDossierText s bytes → length bytes ≤ most_dossier_bytes → TimelineEnds s (fault_status f)
+fault_ends : (bytes : List ℕ) (f : Fault) → IsTimelineFault bytes f → (s : Statement) → IsDossierText s bytes → length bytes ≤ most_text → TimelineEnds s (fault_status f)
 fault_ends bytes f (inl h) s is small = refused_ends bytes f h s is small
 fault_ends bytes f (inr h) s is small = ends_by bytes h.0.judgement (fault_status f) h.0.of (ap fault_status h.1 ∙ sym h.0.none) s is
 

@@ -1,6 +1,6 @@
 -- A task file with responses behind it.
 use Rattle.std.specs.Prelude.{◌≡◌, ℕ, ◌-◌, ◌<◌, ◌≤◌, ◌⊎◌, List, ◌++◌, length, take, drop, slice_index, codes}
-use Rattle.drt_command_check.specs.Check.{most_dossier_bytes}
+use Rattle.drt_model.specs.Numbers.{most_text}
 
 -- A text of responses begins at this byte: a line begins there, and it is the first one of such a text.
 pub record BeginsAt (bytes : List ℕ) (at : ℕ) : Type 0 where
@@ -16,7 +16,7 @@ pub record IsInputCut (bytes : List ℕ) (at : ℕ) : Type 0 where
 
 -- The bytes aren't too many, and are a file and what stands behind it from the first text of responses on.
 pub record IsFileAndText (bytes file text : List ℕ) : Type 0 where
-  pub small : length bytes ≤ most_dossier_bytes
+  pub small : length bytes ≤ most_text
   pub at : ℕ
   pub cut : IsInputCut bytes at
   pub file_is : file ≡ take at bytes

@@ -1,6 +1,7 @@
 -- `timeline` of a response: what it draws, what it refuses, and with which status it ends.
 use Rattle.std.specs.Prelude.{◌≡◌, ℕ, ◌<◌, ◌⊎◌, ◌&&◌, ◌==◌, Bool, List, Option, Some, length}
 use Rattle.std.specs.List.{find}
+use Rattle.drt_model.specs.Numbers.{most_text}
 use Rattle.drt_model.specs.Contents.{Contents}
 use Rattle.drt_model.specs.declared.jobs.Policy.TheVariants.{Fixed}
 use Rattle.drt_model.specs.declared.tasks.Task.{Task}
@@ -9,7 +10,7 @@ use Rattle.drt_outcome.specs.declared.fault.Fault.TheVariants as faults
 use Rattle.drt_outcome.specs.declared.outcome.Trail.TheVariants as trails
 use Rattle.drt_command.specs.declared.report.Report.{Report}
 use Rattle.drt_command.specs.Rules.{Rules}
-use Rattle.drt_command_check.specs.Check.{dossier_input, most_dossier_bytes}
+use Rattle.drt_command_check.specs.Check.{dossier_input}
 use Rattle.drt_command_files.specs.TaskFiles.{IsAccepted, IsFileFault}
 use Rattle.drt_responses.specs.Reading.{HasTextFault, IsResponsesText}
 use Rattle.drt_responses.specs.declared.response.Response.{Response}
@@ -119,7 +120,7 @@ pub record IsNotReached (task vertex bytes : List ℕ) : Type 0 where
 -- no vertex has these names, else rule 31 where its response isn't reached.
 abbrev pub IsResponseFault : List ℕ → List ℕ → List ℕ → Fault → Type 0
 IsResponseFault task vertex bytes fault =
-    ((most_dossier_bytes < length bytes) × (fault ≡ faults.Dossier 0 4))
+    ((most_text < length bytes) × (fault ≡ faults.Dossier 0 4))
     ⊎ (IsFaultOfFile bytes fault
     ⊎ (IsFaultOfText bytes fault
     ⊎ ((HasNoDrawnSpot task vertex bytes × (fault ≡ faults.Limit 27))

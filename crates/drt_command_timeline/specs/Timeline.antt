@@ -1,5 +1,6 @@
 -- `timeline` of a dossier: what it draws, what it refuses, and with which status it ends.
 use Rattle.std.specs.Prelude.{◌≡◌, ℕ, ◌≤◌, ◌⊎◌, Bool, List, length}
+use Rattle.drt_model.specs.Numbers.{most_text}
 use Rattle.drt_claims.specs.Kinds.{stated_miss, stated_releases}
 use Rattle.drt_evidence.specs.Reading.{IsDossierText}
 use Rattle.drt_claims.specs.Statement.{Statement}
@@ -11,7 +12,7 @@ use Rattle.drt_outcome.specs.declared.fault.Fault.TheVariants as faults
 use Rattle.drt_outcome.specs.declared.outcome.Trail.TheVariants as trails
 use Rattle.drt_command.specs.declared.report.Report.{Report}
 use Rattle.drt_command.specs.Rules.{Rules}
-use Rattle.drt_command_check.specs.Check.{IsDossier, IsDossierFault, IsJudgementOf, dossier_input, most_dossier_bytes}
+use Rattle.drt_command_check.specs.Check.{IsDossier, IsDossierFault, IsJudgementOf, dossier_input}
 use Rattle.drt_command_timeline.specs.Drawn.{IsDrawn}
 
 -- The status of each judgement: a no is drawn, rejected evidence breaks a rule, and the others have no releases to draw.
@@ -61,5 +62,5 @@ timeline_rules svg = record {
   makes = DrawsNo svg;
   refuses = IsTimelineFault;
   faults = IsTimelineFault;
-  ends = λ bytes status. (s : Statement) → IsDossierText s bytes → length bytes ≤ most_dossier_bytes → TimelineEnds s status;
+  ends = λ bytes status. (s : Statement) → IsDossierText s bytes → length bytes ≤ most_text → TimelineEnds s status;
 }

@@ -1,8 +1,9 @@
 //! `timeline` of a dossier: its releases that miss, drawn up to the deadline that is missed.
 ghost use Rattle.std.specs.Prelude.{◌≡◌, ◌≤◌, IfErr, IfOk, MatchOption, length};
+ghost use Rattle.drt_model.specs.Numbers.{most_text};
 ghost use Rattle.drt_claims.specs.Kinds.{HasReleases, stated_miss, stated_releases};
 ghost use Rattle.drt_command.specs.Rules.{IsUnmadeCause};
-ghost use Rattle.drt_command_check.specs.Check.{IsDossierFault, most_dossier_bytes};
+ghost use Rattle.drt_command_check.specs.Check.{IsDossierFault};
 ghost use Rattle.drt_command_timeline.specs.Timeline.{DrawsNo, IsJudgedDossier, IsTimelineFault, timeline_rules};
 
 use crate::drawing::draw;
@@ -52,7 +53,7 @@ impl Command for Timeline {
 
 // The dossier and its judgement.
 fn judge(alloc: Global, bytes: &[u8]) -> Result<(Dossier, Judgement), Unmade>
-    requires { length bytes.now ≤ most_dossier_bytes }
+    requires { length bytes.now ≤ most_text }
     ensures judged { IfOk result (λ p. IsJudgedDossier bytes.now p.0 p.1) }
     ensures unmade { IfErr result (IsUnmadeCause IsDossierFault bytes.now) }
 {

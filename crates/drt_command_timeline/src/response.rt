@@ -1,7 +1,7 @@
 //! `timeline` of a response: the releases that reach it, drawn up to the tick after which its job finishes.
 ghost use Rattle.std.specs.Prelude.{◌≡◌, ◌≤◌, ◌⊎◌, List, IfErr, IfOk, length};
+ghost use Rattle.drt_model.specs.Numbers.{most_text};
 ghost use Rattle.drt_command.specs.Rules.{IsUnmadeCause};
-ghost use Rattle.drt_command_check.specs.Check.{most_dossier_bytes};
 ghost use Rattle.drt_command_files.specs.TaskFiles.{IsAccepted, IsFileFault, most_bytes};
 ghost use Rattle.drt_responses.specs.Ranges.{AreResponsesInRange, IsInRangeResponse};
 ghost use Rattle.drt_responses.specs.Reading.{IsResponsesText};
@@ -65,7 +65,7 @@ impl Command for ResponseTimeline {
 
 // The report of the named response behind a file.
 fn make_response(alloc: Global, bytes: &[u8], command: &ResponseTimeline) -> Result<Report, Unmade>
-    requires { length bytes.now ≤ most_dossier_bytes }
+    requires { length bytes.now ≤ most_text }
     ensures draws { IfOk result (DrawsResponse command.now.svg command.now.task command.now.vertex bytes.now) }
     ensures unmade { IfErr result (IsUnmadeCause (IsResponseFault command.now.task command.now.vertex) bytes.now) }
 {
@@ -92,7 +92,7 @@ fn accept(alloc: Global, file: &[u8]) -> Result<TaskSet, Unmade>
 
 // The responses that the text says.
 fn read_responses(alloc: Global, text: &[u8]) -> Result<Row<Response>, Unmade>
-    requires { length text.now ≤ most_dossier_bytes }
+    requires { length text.now ≤ most_text }
     ensures read { IfOk result (λ responses. IsResponsesText responses text.now) }
     ensures only { IfOk result (λ responses. (found : List Response) → IsResponsesText found text.now → responses ≡ found) }
     ensures unmade { IfErr result (IsUnmadeCause IsTextFault text.now) }

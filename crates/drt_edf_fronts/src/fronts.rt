@@ -59,7 +59,7 @@ pub fn front_of(
     ensures front { IfOk result (λ front. IsLabelFront table.now.graph table.now.bound front) }
     ensures counted { IfOk result (λ front. IsCounted front) }
 {
-    let _log = table.log();
+    table.keep_run();
     over_every_interleaving::<DemandLabel>();
     let count = graph.vertex_count();
     let mut front = Vec::new(alloc);

@@ -78,8 +78,8 @@ pub fn drive_task(alloc: Global, graph: &Graph, bound: u64, effort: Effort) -> R
     over_every_interleaving::<DemandLabel>();
     let (table, _reply) = search(alloc, graph, bound, effort)?;
     if !table.finished() {
-        let log = Vec::from_slice(alloc, table.log())?;
-        return Ok(Ended::Full(Row::from_vec(log)));
+        table.keep_run();
+        return Ok(Ended::Full(Row::from_vec(table.into_log())));
     }
     Ok(Ended::Front(front_of(alloc, graph, &table)?))
 }

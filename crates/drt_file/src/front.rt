@@ -1,5 +1,6 @@
 //! Reading the canonical text at the front of a file.
 ghost use Rattle.std.specs.Prelude.{◌≡◌, ◌++◌, ◌∷◌, ◌≤◌, ℕ, true, length, IfOk, IfErr, MatchOption};
+ghost use Rattle.drt_model.specs.Numbers.{most_text};
 ghost use Rattle.drt_model.specs.Contents.{Contents};
 ghost use Rattle.drt_file.specs.declared.front.CanonicalError.TheVariants.{Fault};
 ghost use Rattle.drt_file.specs.trusted.CanonicalPrefix.{BeginsWith, GivesFront, IsCanonicalCause};
@@ -73,7 +74,7 @@ fn has_ended(above: &Option<Reader>) -> bool
 
 // The lines down to `end`: the number behind it, what they leave, and the text behind them.
 fn all_lines(alloc: Global, bytes: &[u8]) -> Result<(u32, Option<Reader>, &[u8]), CanonicalError>
-    requires { length bytes.now ≤ 1073741824 }
+    requires { length bytes.now ≤ most_text }
     ensures read { IfOk result (λ end. Above bytes.now end.0 end.1 end.2.now × (has_ended end.1 ≡ true)) }
     ensures fault { IfErr result (IsCanonicalCause bytes.now) }
 {
@@ -104,7 +105,7 @@ fn all_lines(alloc: Global, bytes: &[u8]) -> Result<(u32, Option<Reader>, &[u8])
 ///
 /// It looks at no byte behind that text or that line. Names are found as `read` finds them.
 pub fn read_canonical(alloc: Global, bytes: &[u8]) -> Result<Canonical, CanonicalError>
-    requires { length bytes.now ≤ 1073741824 }
+    requires { length bytes.now ≤ most_text }
     ensures read { IfOk result (λ front. BeginsWith bytes.now front.set front.length) }
     ensures found { (set : Contents) (count : ℕ) → BeginsWith bytes.now set count → GivesFront result set count }
     ensures fault { IfErr result (IsCanonicalCause bytes.now) }

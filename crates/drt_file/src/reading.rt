@@ -1,5 +1,6 @@
 //! Reading a task file: once over its bytes, line by line, down to the first fault.
 ghost use Rattle.std.specs.Prelude.{◌≡◌, ◌≤◌, if◌then◌else◌, None, Ok, length, map, IfOk, IfErr};
+ghost use Rattle.drt_model.specs.Numbers.{most_text};
 ghost use Rattle.drt_file.specs.trusted.Cutting.{lines};
 ghost use Rattle.drt_file.specs.trusted.Reading.{Reads, IsCauseOf};
 ghost use Rattle.drt_file.specs.trusted.Line.{is_skipped};
@@ -51,7 +52,7 @@ fn step(
 }
 
 fn all_lines(alloc: Global, text: &[u8]) -> Result<(u32, Option<Reader>), FileError>
-    requires { length text.now ≤ 1073741824 }
+    requires { length text.now ≤ most_text }
     ensures { Gives result (steps 1 None (lines text.now)) }
 {
     let mut n: u32 = 1;
@@ -69,7 +70,7 @@ fn all_lines(alloc: Global, text: &[u8]) -> Result<(u32, Option<Reader>), FileEr
 // The version and the tasks of the set that a text says, or its fault.
 #[tactic(auto, unfolding(crate::specs::internal::Steps::read_text))]
 fn parts_of(alloc: Global, bytes: &[u8]) -> Result<(u8, Row<Task>), FileError>
-    requires { length bytes.now ≤ 1073741824 }
+    requires { length bytes.now ≤ most_text }
     ensures { GivesSet result (read_text bytes.now) }
 {
     let (n, above) = all_lines(alloc, bytes)?;
@@ -81,7 +82,7 @@ fn parts_of(alloc: Global, bytes: &[u8]) -> Result<(u8, Row<Task>), FileError>
 /// It goes once over the bytes. Names are numbered in the order of the file and found by hash, those
 /// of tasks among the tasks above, those of vertices among the vertices above in the task.
 pub fn read(alloc: Global, bytes: &[u8]) -> Result<TaskSet, FileError>
-    requires { length bytes.now ≤ 1073741824 }
+    requires { length bytes.now ≤ most_text }
     ensures read { IfOk result (λ set. Reads bytes.now set) }
     ensures fault { IfErr result (IsCauseOf bytes.now) }
 {

@@ -1,5 +1,6 @@
 -- Whole turns of the cycles that have the tasks' ratios, and the times at which a turn ends.
 use Rattle.std.specs.Prelude.{◌≡◌, ℕ, zero, suc, ◌+◌, ◌*◌, ◌/◌, ◌%◌, ◌<◌, ◌≤◌, Bool, false, true, ◌==◌, ◌||◌, if◌then◌else◌, List, [], ◌∷◌}
+use Rattle.drt_model.specs.Numbers.{most_cycle}
 use Rattle.drt_model.specs.Digraph.{Digraph}
 use Rattle.drt_model.specs.Walk.{work, cycle_span}
 use Rattle.drt_ratio.specs.declared.ratio_proof.RatioProof.{RatioProof}
@@ -64,4 +65,4 @@ pub record IsNextStepTime (cycle_turns : List CycleTurn) (t next : ℕ) : Type 0
 -- Each span is 1 to 100,000,000, and each work at most that.
 abbrev pub AreCycleTurns : List CycleTurn → Type 0
 AreCycleTurns [] = Unit {0}
-AreCycleTurns (c ∷ cycle_turns) = (1 ≤ c.span) × (c.span ≤ 100000000) × (c.work ≤ 100000000) × AreCycleTurns cycle_turns
+AreCycleTurns (c ∷ cycle_turns) = (1 ≤ c.span) × (c.span ≤ most_cycle) × (c.work ≤ most_cycle) × AreCycleTurns cycle_turns

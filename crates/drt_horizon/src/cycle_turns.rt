@@ -1,5 +1,6 @@
 //! Whole turns of cycles, and the times at which a turn ends.
 ghost use Rattle.std.specs.Prelude.{◌≡◌, ℕ, ◌+◌, ◌<◌, ◌≤◌, [], ◌∷◌, length};
+ghost use Rattle.drt_model.specs.Numbers.{most_cycle};
 ghost use Rattle.drt_model.specs.Digraph.{vertex_count};
 ghost use Rattle.drt_model.specs.Walk.{IsCycle, work, cycle_span};
 ghost use Rattle.drt_horizon.specs.CycleTurns.{AreCycleTurns, IsNextStepTime, turned};
@@ -31,10 +32,10 @@ pub fn cycle_turn_of(graph: &Graph, cycle: &[u32]) -> CycleTurn
 // The first multiple of the turn's span after `t`.
 fn next_of(cycle_turn: CycleTurn, t: u64) -> u64
     requires some { 1 ≤ cycle_turn.span }
-    requires small { cycle_turn.span ≤ 100000000 }
+    requires small { cycle_turn.span ≤ most_cycle }
     requires time { t ≤ 1000000000000000 }
     ensures next { IsNextStepTime (cycle_turn ∷ []) t result }
-    ensures near { result ≤ t + 100000000 }
+    ensures near { result ≤ t + most_cycle }
 {
     (t / cycle_turn.span + 1) * cycle_turn.span
 }
@@ -45,7 +46,7 @@ pub fn next_step(cycle_turns: &[CycleTurn], t: u64) -> u64
     requires some { 1 ≤ length cycle_turns.now }
     requires time { t ≤ 1000000000000000 }
     ensures next { IsNextStepTime cycle_turns.now t result }
-    ensures near { result ≤ t + 100000000 }
+    ensures near { result ≤ t + most_cycle }
 {
     let mut next = next_of(cycle_turns[0], t);
     'cycle_turns: for i in 1..cycle_turns.len() {

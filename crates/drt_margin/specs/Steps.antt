@@ -52,7 +52,7 @@ AreNumbersAhead set q budget ahead =
 pub record IsHalvingRoom (set : Contents) (policy : Policy) (k v : ℕ) (room : Room) : Type 0 where
   pub order : room.low < room.high
   pub most : room.high ≤ most_time
-  pub limit : wcet_at set.tasks k v + room.high ≤ 1000001
+  pub limit : wcet_at set.tasks k v + room.high ≤ most_time + 1
   pub halves : Halves set policy k v room.low room.high
   pub is_in : IsWithinMargin set policy k v room.low
   pub first : IsWithinMargin set policy k v 0
@@ -72,7 +72,7 @@ pub record IsLeast (set : Contents) (policy : Policy) (k v high : ℕ) : Type 0 
   pub near : high - low ≤ 1
   pub first : IsWithinMargin set policy k v 0
   pub past : ArePast set policy k v high
-  pub limit : wcet_at set.tasks k v + high ≤ 1000001
+  pub limit : wcet_at set.tasks k v + high ≤ most_time + 1
 
 -- What is shown of it, or the answer.
 abbrev pub IsLastShown : Contents → Policy → ℕ → ℕ → ℕ → ℕ → Last → Type 0

@@ -25,6 +25,18 @@ most_term = 1000000000
 abbrev pub most_horizon : ℕ
 most_horizon = 1099511627776
 
+-- The greatest execution time and the greatest length, in ticks, of a cycle of different vertices: 10^8.
+abbrev pub most_cycle : ℕ
+most_cycle = 100000000
+
+-- The greatest sum of execution times that is reckoned with: 10^12.
+abbrev pub most_work : ℕ
+most_work = 1000000000000
+
+-- The greatest length of a text that is read, in bytes: 2^30.
+abbrev pub most_text : ℕ
+most_text = 1073741824
+
 -- How far from 0 a potential is at most.
 abbrev pub most_height : ℕ
 most_height = 10000000000000000

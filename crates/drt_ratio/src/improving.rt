@@ -1,5 +1,6 @@
 //! The search for the greatest ratio.
 ghost use Rattle.std.specs.Prelude.{◌≡◌, ℕ, ℤ, pos, ◌+◌, ◌*◌, ◌<◌, ◌≤◌, ◌-◌, IfOk, length};
+ghost use Rattle.drt_model.specs.Numbers.{most_cycle};
 ghost use Rattle.drt_model.specs.Digraph.{Digraph, vertex_count};
 ghost use Rattle.drt_ratio.specs.Claims.{IsInReach, IsRatioProof};
 ghost use Rattle.drt_graph.specs.RatioRules.{ProvesRatio};
@@ -34,8 +35,8 @@ fn ratio_of(graph: &Graph, cycle: &[u32]) -> Ratio
     requires is { IsCycle graph.now cycle.now }
     requires few { length cycle.now ≤ vertex_count graph.now }
     ensures value { result.num * cycle_span graph.now cycle.now ≡ work graph.now cycle.now * result.den }
-    ensures num_small { result.num ≤ 100000000 }
-    ensures den_small { result.den ≤ 100000000 }
+    ensures num_small { result.num ≤ most_cycle }
+    ensures den_small { result.den ≤ most_cycle }
     ensures span_some { 1 ≤ cycle_span graph.now cycle.now }
     ensures work_some { 1 ≤ work graph.now cycle.now }
 {

@@ -1,5 +1,6 @@
 //! The greatest gains of walks, level by level.
 ghost use Rattle.std.specs.Prelude.{◌≡◌, ℕ, ◌+◌, ◌*◌, ◌<◌, ◌≤◌, IfOk, length, slice_index};
+ghost use Rattle.drt_model.specs.Numbers.{most_cycle};
 ghost use Rattle.drt_model.specs.Digraph.{Digraph, vertex_count, out_degree, edge_of};
 ghost use Rattle.drt_ratio.specs.Levels.{height, level_of, IsRaised, IsRelaxed, Rises, IsLevelBelow, IsWholeRound, IsTower};
 
@@ -18,8 +19,8 @@ pub struct Level {
 fn offer(graph: &Graph, a: u64, b: u64, low: &Level, u: u32, k: u32, high: &mut Level)
     requires vertex { u < vertex_count graph.now }
     requires edge { k < out_degree graph.now u }
-    requires a_small { a ≤ 100000000 }
-    requires b_small { b ≤ 100000000 }
+    requires a_small { a ≤ most_cycle }
+    requires b_small { b ≤ most_cycle }
     requires low_small { IsLevelBelow graph.now low.now 1000000000000000000 }
     requires raised { IsRaised graph.now a b low.now high.old }
     ensures raised { IsRaised graph.now a b low.now high.new }
@@ -40,8 +41,8 @@ fn offer(graph: &Graph, a: u64, b: u64, low: &Level, u: u32, k: u32, high: &mut 
 
 // The level a round above `low`.
 fn raised(graph: &Graph, a: u64, b: u64, low: &Level) -> Level
-    requires a_small { a ≤ 100000000 }
-    requires b_small { b ≤ 100000000 }
+    requires a_small { a ≤ most_cycle }
+    requires b_small { b ≤ most_cycle }
     requires low_small { IsLevelBelow graph.now low.now 1000000000000000000 }
     ensures { IsWholeRound graph.now a b low.now result }
 {
@@ -59,8 +60,8 @@ fn raised(graph: &Graph, a: u64, b: u64, low: &Level) -> Level
 
 /// The levels of as many rounds as there are vertices, from the level whose heights are 0.
 pub fn levels(alloc: Global, graph: &Graph, a: u64, b: u64) -> Result<Vec<Level>, Memory>
-    requires a_small { a ≤ 100000000 }
-    requires b_small { b ≤ 100000000 }
+    requires a_small { a ≤ most_cycle }
+    requires b_small { b ≤ most_cycle }
     ensures tower { IfOk result (λ levels. IsTower graph.now a b levels.items) }
     ensures count { IfOk result (λ levels. length levels.items ≡ vertex_count graph.now + 1) }
 {

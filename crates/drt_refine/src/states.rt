@@ -4,6 +4,7 @@
 //! ones are those from a number on, and nothing is searched. The taken ones are as few as the workers.
 
 ghost use Rattle.std.specs.Prelude.{◌≡◌, ℕ, ◌+◌, ◌≤◌, ◌<◌, ◌++◌, ◌∷◌, [], true, false, Some, None, length, slice_get, set, IfOk, vec_capacity, not, ◌==◌};
+ghost use Rattle.drt_effort.specs.Efforts.{most_budget};
 ghost use Rattle.drt_worklist.specs.Places.{first, places};
 ghost use Rattle.drt_refine.specs.Combination.{is_pending_combination, is_taken_combination, is_held_state, is_failed_state};
 ghost use Rattle.drt_refine.specs.declared.step.CombinationState.TheVariants.{Pending, Taken, Split};
@@ -38,7 +39,7 @@ impl Model for States {
     ghost invariant = { λ s.
         AreSorted s.items.items s.next s.taken.items s.failed
         × (length s.items.items ≤ s.room)
-        × (s.room ≤ 1000001)
+        × (s.room ≤ most_budget + 1)
         × (s.room ≤ vec_capacity s.items)
         × (s.room ≤ vec_capacity s.taken) };
 }
@@ -46,7 +47,7 @@ impl Model for States {
 impl States {
     // One pending state, and room for `room` of them.
     pub(crate) fn new(alloc: Global, room: usize) -> Result<States, Memory>
-        requires { (1 ≤ room) × (room ≤ 1000001) }
+        requires { (1 ≤ room) × (room ≤ most_budget + 1) }
         ensures items { IfOk result (λ states. states.items ≡ Pending ∷ []) }
         ensures room { IfOk result (λ states. states.room ≡ room) }
     {
@@ -64,7 +65,7 @@ impl States {
     // How many there are.
     pub(crate) fn count(&self) -> u32
         ensures value { result ≡ length self.now.items }
-        ensures small { result ≤ 1000001 }
+        ensures small { result ≤ most_budget + 1 }
     {
         self.items.len() as u32
     }

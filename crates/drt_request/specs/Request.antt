@@ -1,6 +1,6 @@
 -- Request labels as values.
 use Rattle.std.specs.Prelude.{ℕ, ◌+◌, ◌*◌, ◌≤◌, Bool, ◌==◌, nat_le, nat_lt, ◌&&◌, false, List, length, replicate}
-use Rattle.drt_model.specs.Numbers.{most_time}
+use Rattle.drt_model.specs.Numbers.{most_time, most_work}
 use Rattle.drt_label.specs.Algebra.{Algebra}
 use Rattle.drt_steps.specs.Values.{raise, covers, value_at}
 use Rattle.drt_steps.specs.Samples.{samples_of}
@@ -36,4 +36,4 @@ pub record AreValuesWithinLimits (offset : ℕ) (values : List ℕ) : Type 0 whe
   pub early : offset ≤ 2000000
   pub few : length values ≤ most_time
   pub work : (t : ℕ) → value_at values t ≤ most_time * (offset + 1)
-  pub small : (t : ℕ) → value_at values t ≤ 1000000000000
+  pub small : (t : ℕ) → value_at values t ≤ most_work

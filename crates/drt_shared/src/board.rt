@@ -63,7 +63,7 @@ impl<L: Label> TableBoard<L> {
         ensures log { IfOk result (λ board. board.log ≡ []) }
     {
         let table = Table::start(alloc, graph, bound, budget)?;
-        keeps_its_run(&table);
+        table.keep_run();
         Ok(TableBoard { table })
     }
 
@@ -90,7 +90,7 @@ impl<L: Label> TableBoard<L> {
         ensures found { TellsFound L.algebra (state_of self.old).nodes worker holding.now result.0 }
         ensures halted { IsTrue is_halted ↔ result.0 ≡ Halted }
     {
-        keeps_its_run(&self.table);
+        self.table.keep_run();
         if is_halted {
             return (SharedReply::Halted, None);
         }
@@ -179,7 +179,7 @@ impl<L: Label> TableBoard<L> {
         requires expected { is_expected holding.now (found_for L.algebra (state_of self.old).nodes worker holding.now) ≡ true }
         ensures { IsCall L.algebra self.old self.new holding.now (Offer edge label) (Step result) None }
     {
-        keeps_its_run(&self.table);
+        self.table.keep_run();
         match holding {
             Some(h) => {
                 let node = h.node;
@@ -208,7 +208,7 @@ impl<L: Label> TableBoard<L> {
         ensures { IsLogged self.old self.new step result }
     {
         let reply = self.table.apply(worker, step, label);
-        keeps_its_run(&self.table);
+        self.table.keep_run();
         reply
     }
 
@@ -220,16 +220,9 @@ impl<L: Label> TableBoard<L> {
         ensures label { IsLabel L.algebra (setting_of self.old) result }
     {
         let label = self.table.hand_out(node);
-        keeps_its_run(&self.table);
+        self.table.keep_run();
         label
     }
-}
-
-// The table's log is a run, and its state is what the run's replay gives. It does nothing.
-fn keeps_its_run<L: Label>(table: &Table<L>)
-    ensures { IsTable L.algebra table.now }
-{
-    table.log();
 }
 
 // Whether the label is that of what the pass holds.

@@ -6,6 +6,7 @@ use Rattle.drt_model.specs.Limits.{IsTaskSet}
 use Rattle.drt_busy.specs.Decide.{TimesDecide}
 use Rattle.drt_tree.specs.Tree.{IsForest}
 use Rattle.drt_claims.specs.Trees.{greatest_deadline}
+use Rattle.drt_sp.specs.Claims.{begins}
 use Rattle.drt_sp.specs.Grown.{AreProvedTrees}
 use Rattle.drt_sp.specs.Progress.{AreTreesComplete}
 use Rattle.drt_sp.specs.declared.progress.Progress.{Progress}
@@ -26,7 +27,7 @@ proved_trees set order p limits constrained decides forest is =
       count = omega (arith, is.grown.count, is.whole);
       passed = is.proved.passed;
       forest = forest;
-      nodes = claimed_nodes (greatest_deadline set.tasks) p.forest _ is.grown.lows p.roots.items p.trees.items is.grown.claimed;
+      nodes = claimed_nodes (greatest_deadline set.tasks) p.forest _ (begins 0 p.roots.items) p.roots.items p.trees.items is.grown.claimed;
       one_bound = is.grown.one_bound;
       stand = is.grown.stand;
       few = is.grown.few_leaves;

@@ -18,7 +18,7 @@ use Rattle.drt_claims.specs.Ranges.{IsInRangeTree}
 use Rattle.drt_claims.specs.Trees.{greatest_deadline}
 use Rattle.drt_claims.specs.declared.evidence.ProofClaim.{ProofClaim}
 use Rattle.drt_claims.specs.declared.evidence.TreeClaim.{TreeClaim}
-use Rattle.drt_sp.specs.Claims.{AreClaimsOf}
+use Rattle.drt_sp.specs.Claims.{AreClaimsOf, begins, behind}
 use Rattle.drt_sp.specs.Progress.{AreTreesGrown, AreProofsAt, AreProved, IsProofAt, first_graphs}
 use Rattle.drt_sp.specs.TreeClaims.{IsClaimOf, IsTreeOf}
 use Rattle.drt_sp.specs.Vertices.{AreVertexProofs, IsProvedVertex}
@@ -55,6 +55,15 @@ claims_push bound f x low top claim is [] [] [] [] are = (is, tt)
 claims_push bound f x low top claim is (y ∷ graphs) (l ∷ lows) (t ∷ tops) (c ∷ claims) are = (are.0, claims_push bound f x low top claim is graphs lows tops claims are.1)
 claims_push bound f x low top claim is graphs lows tops claims are = absurd are
 
+-- Where trees begin, and end, with one more behind them.
+begins_push : (low : ℕ) (tops : List ℕ) (top : ℕ) → begins low (tops ++ top ∷ []) ≡ begins low tops ++ behind low tops ∷ []
+begins_push low [] top = refl
+begins_push low (t ∷ tops) top = ap (λ (ns : List ℕ). low ∷ ns) (begins_push (t + 1) tops top)
+
+behind_push : (low : ℕ) (tops : List ℕ) (top : ℕ) → behind low (tops ++ top ∷ []) ≡ top + 1
+behind_push low [] top = refl
+behind_push low (t ∷ tops) top = behind_push (t + 1) tops top
+
 module _ (tasks : List Task) (bound : ℕ) (f g : Plain) (grows : Grows f g) (forest : IsForest f) where
   trees_stay : (order roots : List ℕ) → AreNodes f roots → AreTrees tasks order bound f roots → AreTrees tasks order bound g roots
   trees_stay order [] nodes are = tt
@@ -71,16 +80,17 @@ trees_push tasks bound f (j ∷ order) (r ∷ roots) k root at are is = (are.0, 
 -- One more tree.
 pub grown_more : (tasks : List Task) (order : List ℕ) (m k : ℕ) → slice_get order m ≡ Some k → (f g : Plain) (roots : List ℕ) (trees : List TreeClaim)
     → AreTreesGrown tasks order m f roots trees → IsForest f → Grows f g → All (λ (xs : List ℕ). length xs ≡ greatest_deadline tasks) g.pool → length g.nodes ≤ length f.nodes + 2000192
-    → (low top : ℕ) (claim : TreeClaim) → StandsFor (graph_at tasks k) (greatest_deadline tasks) g top → leaves g top ≡ length claim.walks
+    → (low top : ℕ) (claim : TreeClaim) → low ≡ length f.nodes → length g.nodes ≡ top + 1 → StandsFor (graph_at tasks k) (greatest_deadline tasks) g top → leaves g top ≡ length claim.walks
     → IsClaimOf (graph_at tasks k) (greatest_deadline tasks) g low top claim
     → IsTreeOf (greatest_deadline tasks) (graph_at tasks k) claim → IsInRangeTree claim → AreTreesGrown tasks order (m + 1) g (roots ++ top ∷ []) (trees ++ claim ∷ [])
-grown_more tasks order m k at f g roots trees grown forest grows bounds few low top claim stands leaf_count is tree range =
+grown_more tasks order m k at f g roots trees grown forest grows bounds few low top claim begin end stands leaf_count is tree range =
     let bound : ℕ = greatest_deadline tasks in
     let graphs = graphs_more tasks order m k at in
-    let claims : AreClaimsOf bound g (first_graphs tasks order m ++ graph_at tasks k ∷ []) (grown.lows ++ low ∷ []) (roots ++ top ∷ []) (trees ++ claim ∷ [])
-    = claims_push bound g (graph_at tasks k) low top claim is (first_graphs tasks order m) grown.lows roots trees
-    (claims_stay bound f g grows (first_graphs tasks order m) grown.lows roots trees forest grown.claimed) in
-    let nodes = claimed_nodes bound f (first_graphs tasks order m) grown.lows roots trees grown.claimed in
+    let claims : AreClaimsOf bound g (first_graphs tasks order m ++ graph_at tasks k ∷ []) (begins 0 roots ++ low ∷ []) (roots ++ top ∷ []) (trees ++ claim ∷ [])
+    = claims_push bound g (graph_at tasks k) low top claim is (first_graphs tasks order m) (begins 0 roots) roots trees
+    (claims_stay bound f g grows (first_graphs tasks order m) (begins 0 roots) roots trees forest grown.claimed) in
+    let lows : begins 0 roots ++ low ∷ [] ≡ begins 0 (roots ++ top ∷ []) = ap (λ n. begins 0 roots ++ n ∷ []) (begin ∙ grown.ends) ∙ sym (begins_push 0 roots top) in
+    let nodes = claimed_nodes bound f (first_graphs tasks order m) (begins 0 roots) roots trees grown.claimed in
     let stay : AreTrees tasks order bound g roots = trees_stay tasks bound f g grows forest order roots nodes grown.stand in
     let here : slice_get order (length roots) ≡ Some k = ap (slice_get order) grown.count ∙ at in
     record {
@@ -89,8 +99,9 @@ grown_more tasks order m k at f g roots trees grown forest grows bounds few low 
       few = omega (arith, few, grown.few);
       stand = trees_push tasks bound g order roots k top here stay stands;
       few_leaves = more_few tasks order f g roots k top claim here nodes grows tree leaf_count grown.few_leaves;
-      lows = grown.lows ++ low ∷ [];
-      claimed = subst (λ gs. AreClaimsOf bound g gs (grown.lows ++ low ∷ []) (roots ++ top ∷ []) (trees ++ claim ∷ [])) (sym graphs) claims;
+      claimed = subst (λ gs. AreClaimsOf bound g gs (begins 0 (roots ++ top ∷ [])) (roots ++ top ∷ []) (trees ++ claim ∷ [])) (sym graphs)
+          (subst (λ ns. AreClaimsOf bound g (first_graphs tasks order m ++ graph_at tasks k ∷ []) ns (roots ++ top ∷ []) (trees ++ claim ∷ [])) lows claims);
+      ends = end ∙ sym (behind_push 0 roots top);
       exact = subst (λ gs. Each (IsTreeOf bound) gs (trees ++ claim ∷ [])) (sym graphs) (each_push (IsTreeOf bound) (first_graphs tasks order m) trees (graph_at tasks k) claim grown.exact tree);
       range = All-push IsInRangeTree trees claim grown.range range;
     }
@@ -111,8 +122,8 @@ none_grown tasks order f roots trees nodes pool roots_none trees_none =
       few = omega (arith, ap length nodes);
       stand = tt;
       few_leaves = none_few tasks order f;
-      lows = [];
       claimed = tt;
+      ends = ap length nodes;
       exact = tt;
       range = All-nil IsInRangeTree;
     }))
@@ -133,9 +144,8 @@ proof_kept tasks order i k trees claim l p is = record {
   range = is.range;
   forest = is.forest;
   forest_is = is.forest_is;
-  lows = is.lows;
   roots = is.roots;
-  claimed = subst (λ ts. AreClaimsOf (greatest_deadline tasks) is.forest (first_graphs tasks order i) is.lows is.roots ts) (sym (take-append-le i trees (claim ∷ []) l)) is.claimed;
+  claimed = subst (λ ts. AreClaimsOf (greatest_deadline tasks) is.forest (first_graphs tasks order i) (begins 0 is.roots) is.roots ts) (sym (take-append-le i trees (claim ∷ []) l)) is.claimed;
   items_are = is.items_are;
 }
 
@@ -186,9 +196,8 @@ proved_more tasks order order_is m k at f roots trees forest grown rows proved f
       range = is.range;
       forest = f;
       forest_is = forest;
-      lows = grown.lows;
       roots = roots;
-      claimed = subst (λ ts. AreClaimsOf (greatest_deadline tasks) f (first_graphs tasks order m) grown.lows roots ts) (sym (take_all m trees (omega (arith, count)))) grown.claimed;
+      claimed = subst (λ ts. AreClaimsOf (greatest_deadline tasks) f (first_graphs tasks order m) (begins 0 roots) roots ts) (sym (take_all m trees (omega (arith, count)))) grown.claimed;
       items_are = is.proves.items_are;
     }
 

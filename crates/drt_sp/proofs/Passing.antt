@@ -24,7 +24,7 @@ use Rattle.drt_claims.specs.declared.evidence.ProofClaim.{ProofClaim}
 use Rattle.drt_claims.specs.declared.evidence.TreeClaim.{TreeClaim}
 use Rattle.drt_sp.specs.Answers.{HigherMeetDeadlines, IsVertexReached}
 use Rattle.drt_busy.specs.Response.{MeetsDeadlines}
-use Rattle.drt_sp.specs.Claims.{AreClaimsOf}
+use Rattle.drt_sp.specs.Claims.{AreClaimsOf, begins}
 use Rattle.drt_sp.specs.Progress.{AreTreesGrown}
 use Rattle.drt_sp.specs.Vertices.{AreVertexProofs, IsProvedVertex, TuplesPass, subject_of, subjects}
 use Rattle.drt_sp.proofs.ExactTrees.{grown_exact}
@@ -113,7 +113,7 @@ module _ (tasks : List Task) (order : List ℕ) (order_is : IsOrder tasks order)
 
     pub chosen_at : IsForest f → (v : ℕ) → v < vertex_count (graph_at tasks k) → AreChosen (deadline (graph_at tasks k) v) f.pool roots
     chosen_at forest v l = nodes_chosen (greatest_deadline tasks) (deadline (graph_at tasks k) v) f roots forest.same grown.one_bound (deadline_near tasks k v (task_below m k at) l)
-        (claimed_nodes (greatest_deadline tasks) f _ grown.lows roots trees grown.claimed)
+        (claimed_nodes (greatest_deadline tasks) f _ (begins 0 roots) roots trees grown.claimed)
 
 -- Where an analysis stands at a vertex whose earlier ones pass.
 pub reached_at : (set : Contents) (order : List ℕ) → IsOrder set.tasks order → IsTaskSet set.version set.tasks → AreConstrained set.tasks → TimesSufficeForTask → LeavesPass
@@ -122,7 +122,7 @@ pub reached_at : (set : Contents) (order : List ℕ) → IsOrder set.tasks order
     → v < vertex_count (graph_at set.tasks k) → ((u : ℕ) → u < v → TuplesPass f roots (graph_at set.tasks k) u) → IsVertexReached set order f roots k v
 reached_at set order order_is limits constrained suffice pass m k v at f roots trees forest grown first l earlier = record {
   task = task_below set.tasks order order_is m k at;
-  nodes = claimed_nodes (greatest_deadline set.tasks) f _ grown.lows roots trees grown.claimed;
+  nodes = claimed_nodes (greatest_deadline set.tasks) f _ (begins 0 roots) roots trees grown.claimed;
   posed = posed_at set.tasks order order_is set.version m k limits at f roots trees grown v l;
   passed = subst (FirstPass set.tasks order) (sym grown.count) first;
   higher = higher_meet set.tasks order order_is set.version suffice limits constrained m k first at;

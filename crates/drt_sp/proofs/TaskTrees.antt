@@ -514,8 +514,13 @@ module _ (f h : Plain) (ls : List Leaf) (top : ℕ) (old : IsForest f) (added : 
         let claim : written ≡ t.claim = claim_is t.claim (ws ∙ ap (λ n. walks_from h n (length ls)) is_low) (ps ∙ ap (λ n. pairs_from h n (n + length ls) (length ls - 1)) is_low) in
         let c = counted in
         let s = some_leaf some in
+        let q = first_is in
+        let n = top_is in
+        let m = pairs_counted in
         record {
           grows = grows_on f mid h (leaves_grow f added.sorted) added.grows;
+          begins = is_low;
+          ends = (let l = long in omega (arith, l, c, q, n, m, is_top));
           functions = all_functions some;
           room = (let l = long in omega (arith, l, c, few));
           stands = subst (λ n. StandsFor g bound h n) (sym is_top) (stands_for some);

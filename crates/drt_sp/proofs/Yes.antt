@@ -30,6 +30,7 @@ use Rattle.drt_claims.proofs.Accepting.{fixed_yes_accepted}
 use Rattle.drt_check_trees.proofs.Ranked.{order_sorts}
 use Rattle.drt_sp.specs.Answers.{IsExactTreeYes}
 use Rattle.drt_sp.specs.Progress.{AreTreesGrown, AreProofsAt, AreProved, IsProofAt, first_graphs}
+use Rattle.drt_sp.specs.Claims.{begins}
 use Rattle.drt_sp.specs.TreeClaims.{IsTreeOf}
 use Rattle.drt_sp.specs.Vertices.{subject_of, subjects}
 use Rattle.drt_sp.specs.Written.{AreEagerItems, IsEagerProof}
@@ -148,7 +149,7 @@ module _ (tasks : List Task) (order : List ℕ) (order_is : IsOrder tasks order)
         sym (order_higher tasks order order_is placed.place place_low) ∙ ap (λ x. higher_count tasks x.priority) (ap (task_at tasks) e ∙ task_is)
 
     shape_first : after_all (take placed.place trees) p.items (Some (opening_stack trees placed.place)) ≡ Some []
-    shape_first = items_shape (greatest_deadline tasks) placed.is.forest (first_graphs tasks order placed.place) placed.is.lows placed.is.roots (take placed.place trees) placed.is.claimed
+    shape_first = items_shape (greatest_deadline tasks) placed.is.forest (first_graphs tasks order placed.place) (begins 0 placed.is.roots) placed.is.roots (take placed.place trees) placed.is.claimed
         (wcet (graph_at tasks placed.task) p.vertex) (deadline (graph_at tasks placed.task) p.vertex) p.items placed.is.items_are
 
     shape_all : after_all trees p.items (Some (opening_stack trees placed.place)) ≡ Some []
@@ -164,7 +165,7 @@ module _ (tasks : List Task) (order : List ℕ) (order_is : IsOrder tasks order)
 
     times_first : All (HasPassingTime (first_graphs tasks order placed.place) (take placed.place trees) (graph_at tasks placed.task) p.vertex)
         (passes (take placed.place trees) p.items (Some (opening_stack trees placed.place)))
-    times_first = items_pass (greatest_deadline tasks) placed.is.forest (first_graphs tasks order placed.place) placed.is.lows placed.is.roots (take placed.place trees) placed.is.claimed
+    times_first = items_pass (greatest_deadline tasks) placed.is.forest (first_graphs tasks order placed.place) (begins 0 placed.is.roots) placed.is.roots (take placed.place trees) placed.is.claimed
         (graph_at tasks placed.task) p.vertex near p.items placed.is.items_are
 
     place_most : placed.place ≤ last
@@ -201,7 +202,7 @@ module _ (tasks : List Task) (order : List ℕ) (order_is : IsOrder tasks order)
     due_first : AreEagerItems (first_graphs tasks order placed.place) (take placed.place trees) (graph_at tasks placed.task) p.vertex p.items (Some (opening_stack trees placed.place))
     due_first =
         let is : IsProofAt tasks order placed.place placed.task trees p = placed.is in
-        items_due (greatest_deadline tasks) is.forest is.forest_is (first_graphs tasks order placed.place) is.lows is.roots (take placed.place trees) is.claimed
+        items_due (greatest_deadline tasks) is.forest is.forest_is (first_graphs tasks order placed.place) (begins 0 is.roots) is.roots (take placed.place trees) is.claimed
         (take_trees placed.place) (graph_at tasks placed.task) p.vertex near p.items is.items_are
 
     due_all : AreEagerItems (tree_graphs ranked trees) trees (graph_at tasks placed.task) p.vertex p.items (Some (opening_stack trees placed.place))

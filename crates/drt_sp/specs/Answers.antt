@@ -27,7 +27,7 @@ use Rattle.drt_claims.specs.declared.evidence.Evidence.{Evidence}
 use Rattle.drt_claims.specs.declared.evidence.Evidence.TheVariants.{EdfYes, EdfNo, UtilisationOne, FixedYes, FixedStates, FixedNo, Undecided}
 use Rattle.drt_claims.specs.declared.evidence.ProofClaim.{ProofClaim}
 use Rattle.drt_claims.specs.declared.evidence.TreeClaim.{TreeClaim}
-use Rattle.drt_sp.specs.Claims.{AreClaimsOf}
+use Rattle.drt_sp.specs.Claims.{AreClaimsOf, begins}
 use Rattle.drt_sp.specs.Evidence.{under_fixed}
 use Rattle.drt_sp.specs.Items.{IsFailure, IsSpentRefinement}
 use Rattle.drt_sp.specs.Needs.{AreFewLeaves, IsBelowRefinement, IsBelowSearch}
@@ -54,11 +54,11 @@ pub record IsExactTreeYes (set : Contents) (trees : List TreeClaim) (proofs : Li
   pub exact : Each (IsTreeOf (greatest_deadline set.tasks)) (tree_graphs sorted trees) trees
   pub eager : All (IsEagerProof set.tasks (tree_graphs sorted trees) trees) proofs
 
--- The forest's trees with these roots are the halved ones over the exact walks of the tasks at the first places of the order.
+-- The forest's trees with these roots are the halved ones over the exact walks of the tasks at the first places of the order, one behind the
+-- other from node 0 on.
 pub record AreExactTrees (tasks : List Task) (order : List ℕ) (f : Plain) (roots : List ℕ) : Type 0 where
   pub trees : List TreeClaim
-  pub lows : List ℕ
-  pub claimed : AreClaimsOf (greatest_deadline tasks) f (first_graphs tasks order (length roots)) lows roots trees
+  pub claimed : AreClaimsOf (greatest_deadline tasks) f (first_graphs tasks order (length roots)) (begins 0 roots) roots trees
   pub exact : Each (IsTreeOf (greatest_deadline tasks)) (first_graphs tasks order (length roots)) trees
 
 -- Where an analysis stands at a vertex: the trees of a forest are those of the tasks of higher priority and stand for the walks of these, with

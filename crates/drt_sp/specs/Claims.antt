@@ -1,9 +1,20 @@
 -- Forests that stand behind the trees of a dossier.
-use Rattle.std.specs.Prelude.{ℕ, List, [], ◌∷◌}
+use Rattle.std.specs.Prelude.{ℕ, ◌+◌, List, [], ◌∷◌}
 use Rattle.drt_model.specs.Digraph.{Digraph}
 use Rattle.drt_tree.specs.Tree.{Plain}
 use Rattle.drt_claims.specs.declared.evidence.TreeClaim.{TreeClaim}
 use Rattle.drt_sp.specs.TreeClaims.{IsClaimOf}
+
+-- Where trees with these roots begin that stand one behind the other: the first one at the given node, each other one right behind the root
+-- before.
+abbrev pub begins : ℕ → List ℕ → List ℕ
+begins low [] = []
+begins low (top ∷ tops) = low ∷ begins (top + 1) tops
+
+-- The first node behind such trees.
+abbrev pub behind : ℕ → List ℕ → ℕ
+behind low [] = low
+behind low (top ∷ tops) = behind (top + 1) tops
 
 -- There is one claim for each graph, and one root and one lowest number: the claim is the tree of the forest from this number up to this
 -- root.

@@ -1,5 +1,6 @@
 -- How far an analysis under fixed priorities has come.
 use Rattle.std.specs.Prelude.{◌≡◌, ℕ, ◌+◌, ◌*◌, ◌≤◌, ◌<◌, List, [], ◌∷◌, length, map, take, All, Some, slice_get, slice_index_or}
+use Rattle.drt_model.specs.Numbers.{most_time}
 use Rattle.drt_model.specs.Digraph.{Digraph, vertex_count}
 use Rattle.drt_model.specs.Walk.{deadline, wcet}
 use Rattle.drt_model.specs.declared.tasks.Task.{Task}
@@ -12,7 +13,7 @@ use Rattle.drt_claims.specs.Ranges.{IsInRangeProof, IsInRangeTree}
 use Rattle.drt_claims.specs.Trees.{greatest_deadline}
 use Rattle.drt_claims.specs.declared.evidence.ProofClaim.{ProofClaim}
 use Rattle.drt_claims.specs.declared.evidence.TreeClaim.{TreeClaim}
-use Rattle.drt_sp.specs.Claims.{AreClaimsOf}
+use Rattle.drt_sp.specs.Claims.{AreClaimsOf, begins, behind}
 use Rattle.drt_sp.specs.Items.{AreItems}
 use Rattle.drt_sp.specs.Needs.{AreFewLeaves}
 use Rattle.drt_sp.specs.TreeClaims.{IsTreeOf}
@@ -22,15 +23,15 @@ use Rattle.drt_sp.specs.Vertices.{subject_of, subjects}
 abbrev pub first_graphs : List Task → List ℕ → ℕ → List Digraph
 first_graphs tasks order m = take m (map (graph_at tasks) order)
 
--- The trees of the tasks at the first m places of the order stand in the forest, with these roots and as these claims.
+-- The trees of the tasks at the first m places of the order are the forest, one behind the other, with these roots and as these claims.
 pub record AreTreesGrown (tasks : List Task) (order : List ℕ) (m : ℕ) (f : Plain) (roots : List ℕ) (trees : List TreeClaim) : Type 0 where
   pub count : length roots ≡ m
   pub one_bound : All (λ (xs : List ℕ). length xs ≡ greatest_deadline tasks) f.pool
-  pub few : length f.nodes ≤ m * 2000192
+  pub few : length f.nodes ≤ m * (2 * (most_time + 96))
   pub stand : AreTrees tasks order (greatest_deadline tasks) f roots
   pub few_leaves : AreFewLeaves tasks order f roots
-  pub lows : List ℕ
-  pub claimed : AreClaimsOf (greatest_deadline tasks) f (first_graphs tasks order m) lows roots trees
+  pub claimed : AreClaimsOf (greatest_deadline tasks) f (first_graphs tasks order m) (begins 0 roots) roots trees
+  pub ends : length f.nodes ≡ behind 0 roots
   pub exact : Each (IsTreeOf (greatest_deadline tasks)) (first_graphs tasks order m) trees
   pub range : All IsInRangeTree trees
 
@@ -41,9 +42,8 @@ pub record IsProofAt (tasks : List Task) (order : List ℕ) (i k : ℕ) (trees :
   pub range : IsInRangeProof proof
   pub forest : Plain
   pub forest_is : IsForest forest
-  pub lows : List ℕ
   pub roots : List ℕ
-  pub claimed : AreClaimsOf (greatest_deadline tasks) forest (first_graphs tasks order i) lows roots (take i trees)
+  pub claimed : AreClaimsOf (greatest_deadline tasks) forest (first_graphs tasks order i) (begins 0 roots) roots (take i trees)
   pub items_are : AreItems forest (wcet (graph_at tasks k) proof.vertex) (deadline (graph_at tasks k) proof.vertex) proof.items (roots ∷ [])
 
 -- They are the proofs of the vertices of task k at place i of the order.

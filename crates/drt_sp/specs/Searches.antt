@@ -1,5 +1,6 @@
 -- Searches of tasks' walks, and their leaves before a tree is made of them.
 use Rattle.std.specs.Prelude.{◌≡◌, ℕ, ◌+◌, ◌≤◌, List, length, slice_index_or}
+use Rattle.drt_effort.specs.Efforts.{most_budget}
 use Rattle.drt_ahead.specs.Found.{AreThere}
 use Rattle.drt_model.specs.Digraph.{Digraph, IsSoundGraph}
 use Rattle.drt_graph.specs.Graphs.{graph_of}
@@ -15,7 +16,7 @@ use Rattle.drt_sp.specs.declared.trees.gathering.Leaves.{Leaves}
 pub record AreLeavesOf (g : Digraph) (bound : ℕ) (leaves : Leaves) : Type 0 where
   pub sound : IsSoundGraph g
   pub same : length leaves.labels.items ≡ length leaves.walks.items
-  pub few : length leaves.labels.items ≤ 1000096
+  pub few : length leaves.labels.items ≤ most_budget + 96
   pub leaves_are : AreWalkLeaves bound g (leaves_of leaves.labels.items leaves.walks.items)
 
 -- How a search of a graph's walks ends, before a tree is made of it.

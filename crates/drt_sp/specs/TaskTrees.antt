@@ -45,6 +45,8 @@ pairs_from f low first count = map (λ k. pair_of low (children f k)) (range_wit
 -- The search put this tree of the graph's walks behind the nodes of the forest.
 pub record IsTaskTree (g : Digraph) (bound : ℕ) (old new : Plain) (tree : TaskTree) : Type 0 where
   pub grows : Grows old new
+  pub begins : tree.low ≡ length old.nodes
+  pub ends : length new.nodes ≡ tree.top + 1
   pub functions : All (λ xs. length xs ≡ bound) new.pool
   pub room : length new.nodes ≤ length old.nodes + 2 * (most_time + 96)
   pub stands : StandsFor g bound new tree.top

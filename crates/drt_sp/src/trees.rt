@@ -79,20 +79,20 @@ pub(crate) fn search_leaves(
     ensures { IfOk result (IsSearchEnd graph.now bound effort.budget) }
 {
     let (table, _reply) = search(alloc, graph, bound, effort)?;
-    end_of(alloc, &table)
+    end_of(alloc, table)
 }
 
 // How a search that was driven to its end ended.
-fn end_of(alloc: Global, table: &Table<RequestLabel>) -> Result<SearchEnd, Memory>
-    requires few { table.now.budget ≤ most_budget }
-    requires stops { (reply : TableReply) × StopsAt request_algebra table.now reply }
-    ensures { IfOk result (IsSearchEnd table.now.graph table.now.bound table.now.budget) }
+fn end_of(alloc: Global, table: Table<RequestLabel>) -> Result<SearchEnd, Memory>
+    requires few { table.budget ≤ most_budget }
+    requires stops { (reply : TableReply) × StopsAt request_algebra table reply }
+    ensures { IfOk result (IsSearchEnd table.graph table.bound table.budget) }
 {
     if !table.finished() {
-        let log = Vec::from_slice(alloc, table.log())?;
-        return Ok(SearchEnd::Spent(Row::from_vec(log)));
+        table.keep_run();
+        return Ok(SearchEnd::Spent(Row::from_vec(table.into_log())));
     }
-    let leaves = gather(alloc, table)?;
+    let leaves = gather(alloc, &table)?;
     Ok(SearchEnd::Finished(leaves))
 }
 

@@ -22,6 +22,7 @@ use Rattle.drt_claims.specs.declared.evidence.ProofClaim.{ProofClaim}
 use Rattle.drt_releases.proofs.Walks.{graph_same}
 use Rattle.drt_trails.specs.declared.FixedTrail.{FixedTrail}
 use Rattle.drt_trails.specs.declared.FixedTrail.TheVariants.{Table, Refine}
+use Rattle.drt_sp.specs.Claims.{begins}
 use Rattle.drt_sp.specs.Items.{IsFailure, IsSpentRefinement}
 use Rattle.drt_sp.specs.Progress.{AreTreesGrown}
 use Rattle.drt_sp.specs.TaskTrees.{IsTaskTree}
@@ -81,7 +82,7 @@ module _ (g : Given) (order_is : IsOrder g.set.now.tasks g.order.now) where
         let tasks = g.set.now.tasks in
         let claims = before.claims ++ tree.claim ∷ [] in
         let grown = grown_more tasks g.order.now place k at old.forest new.forest old.roots.items before.claims before.grown forest added.grows added.functions added.room
-        tree.low tree.top tree.claim added.stands added.count added.claim added.rules added.range in
+        tree.low tree.top tree.claim added.begins added.ends added.stands added.count added.claim added.rules added.range in
         record { claims = claims; grown = subst (λ rs. AreTreesGrown tasks g.order.now (place + 1) new.forest rs claims) (sym roots) grown }
 
     module _ (k : ℕ) (trees : HigherTrees) (above : AreHigherTrees g k trees) (forest : IsForest trees.forest) where
@@ -96,7 +97,7 @@ module _ (g : Given) (order_is : IsOrder g.set.now.tasks g.order.now) where
           trees.forest trees.roots.items above.stand.claims above.stand.grown forest
 
       nodes_here : AreNodes trees.forest trees.roots.items
-      nodes_here = claimed_nodes (greatest_deadline g.set.now.tasks) trees.forest _ above.stand.grown.lows trees.roots.items above.stand.claims above.stand.grown.claimed
+      nodes_here = claimed_nodes (greatest_deadline g.set.now.tasks) trees.forest _ (begins 0 trees.roots.items) trees.roots.items above.stand.claims above.stand.grown.claimed
 
       posed_here : (v : ℕ) → v < vertex_count (graph_at g.set.now.tasks k)
           → IsPosed g.set.now.version g.set.now.tasks g.order.now (greatest_deadline g.set.now.tasks) trees.forest trees.roots.items k v

@@ -1,6 +1,6 @@
 -- What the code keeps of a function: a base, and rises that come after given times.
 use Rattle.std.specs.Prelude.{ℕ, suc, zero, ◌≡◌, ◌+◌, ◌-◌, ◌*◌, ◌/◌, ◌≤◌, ◌<◌, max, nat_lt, nat_le, cond, Some, List, [], ◌∷◌, ◌++◌, length, slice_get, slice_index, slice_index_or}
-use Rattle.drt_model.specs.Numbers.{most_time}
+use Rattle.drt_model.specs.Numbers.{most_time, most_work}
 use Rattle.drt_steps.specs.declared.jump.Jump.{Jump}
 use Rattle.drt_steps.specs.Values.{value_at}
 
@@ -37,7 +37,7 @@ values bound base jumps = values_from (λ t. base + risen jumps t) 1 bound
 pub record AreKept (bound base : ℕ) (jumps : List Jump) : Type 0 where
   pub from : 1 ≤ bound
   pub to : bound ≤ most_time
-  pub small : base + total_rise jumps ≤ 1000000000000
+  pub small : base + total_rise jumps ≤ most_work
   pub order : AreFrom 1 jumps
   pub below : AreJumpsBefore bound jumps
 

@@ -1,5 +1,6 @@
 //! The values that a function has from each of its jumps on.
 ghost use Rattle.std.specs.Prelude.{◌≡◌, ◌+◌, ◌≤◌, ◌∷◌, length, slice_index, IfOk};
+ghost use Rattle.drt_model.specs.Numbers.{most_work};
 ghost use Rattle.drt_steps.specs.Jumps.{total_rise, levels};
 
 use crate::jump::Jump;
@@ -7,7 +8,7 @@ use std::alloc::{AllocError, Global};
 
 /// The value from each jump on, of a function with this base.
 pub fn levels(alloc: Global, base: u64, jumps: &[Jump]) -> Result<Vec<u64>, AllocError>
-    requires { base + total_rise jumps.now ≤ 1000000000000 }
+    requires { base + total_rise jumps.now ≤ most_work }
     ensures { IfOk result (λ v. v.items ≡ levels base jumps.now) }
 {
     let mut all = Vec::with_capacity(alloc, jumps.len())?;

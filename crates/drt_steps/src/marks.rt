@@ -1,5 +1,6 @@
 //! Values of a function that are ready, so that most pairs of functions are told apart by them.
 ghost use Rattle.std.specs.Prelude.{◌≡◌, ℕ, List, ◌+◌, ◌/◌, ◌<◌, ◌≤◌, cond, nat_lt, min, length, slice_index};
+ghost use Rattle.drt_model.specs.Numbers.{most_work};
 ghost use Rattle.drt_steps.specs.Jumps.{values, IsFunctionKept, AreMarks};
 ghost use Rattle.drt_steps.specs.Samples.{coarse};
 ghost use Rattle.drt_steps.specs.Values.{raise};
@@ -25,8 +26,8 @@ pub(crate) fn marks(bound: u64, base: u64, jumps: &[Jump], levels: &[u64]) -> [u
 
 // The value at the time `t`, of a function that had `value` there and has `work` more at each time later than `offset`.
 fn raised_value(t: u64, value: u64, offset: u64, work: u64) -> u64
-    requires value { value ≤ 1000000000000 }
-    requires work { work ≤ 1000000000000 }
+    requires value { value ≤ most_work }
+    requires work { work ≤ most_work }
     ensures { result ≡ value + cond (nat_lt offset t) work 0 }
 {
     if offset < t { value + work } else { value }
@@ -35,8 +36,8 @@ fn raised_value(t: u64, value: u64, offset: u64, work: u64) -> u64
 /// The marks of a function with `work` more at each time later than `offset`, out of those of the function before.
 pub(crate) fn raised_marks(bound: u64, marks: &[u64; MARKS], offset: u64, work: u64) -> [u64; MARKS]
     requires bound { 1 ≤ bound }
-    requires marks { (k : ℕ) → k < 16 → slice_index marks.now k ≤ 1000000000000 }
-    requires work { work ≤ 1000000000000 }
+    requires marks { (k : ℕ) → k < 16 → slice_index marks.now k ≤ most_work }
+    requires work { work ≤ most_work }
     ensures { (xs : List ℕ) → bound ≡ length xs → AreMarks bound xs marks.now → AreMarks bound (raise offset work xs) result }
 {
     let mut raised = [0; MARKS];

@@ -1,5 +1,6 @@
 //! One walk over the jumps of two functions, in order of time.
 ghost use Rattle.std.specs.Prelude.{◌≡◌, ℕ, ◌+◌, ◌-◌, ◌<◌, ◌≤◌, ◌++◌, ◌∷◌, [], max, true, false, length, IfOk};
+ghost use Rattle.drt_model.specs.Numbers.{most_work};
 ghost use Rattle.drt_steps.specs.Jumps.{risen, total_rise, AreFrom, AreJumpsBefore, AreMost, IsBelowAt, IsNextJump, grown_jumps};
 
 use crate::jump::Jump;
@@ -25,8 +26,8 @@ fn is_own_next(own: &[Jump], i: usize, other: &[Jump], j: usize) -> bool
 pub fn stays_above(own_base: u64, own: &[Jump], other_base: u64, other: &[Jump]) -> bool
     requires own_order { AreFrom 1 own.now }
     requires other_order { AreFrom 1 other.now }
-    requires own_small { own_base + total_rise own.now ≤ 1000000000000 }
-    requires other_small { other_base + total_rise other.now ≤ 1000000000000 }
+    requires own_small { own_base + total_rise own.now ≤ most_work }
+    requires other_small { other_base + total_rise other.now ≤ most_work }
     ensures above { result ≡ true → (t : ℕ) → other_base + risen other.now t ≤ own_base + risen own.now t }
     ensures below { result ≡ false → (s : ℕ) × IsBelowAt own_base own.now other_base other.now s }
 {
@@ -75,8 +76,8 @@ pub fn merged(
 ) -> Result<Vec<Jump>, AllocError>
     requires own_order { AreFrom 1 own.now }
     requires other_order { AreFrom 1 other.now }
-    requires own_small { own_base + total_rise own.now ≤ 1000000000000 }
-    requires other_small { other_base + total_rise other.now ≤ 1000000000000 }
+    requires own_small { own_base + total_rise own.now ≤ most_work }
+    requires other_small { other_base + total_rise other.now ≤ most_work }
     ensures { IfOk result (λ v. AreMost own_base own.now other_base other.now v.items) }
 {
     let mut jumps = Vec::new(alloc);

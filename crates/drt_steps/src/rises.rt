@@ -1,5 +1,6 @@
 //! The rises of a function, which its copies share.
 ghost use Rattle.std.specs.Prelude.{◌≡◌, ◌+◌, ◌≤◌, ◌++◌, ◌∷◌, [], IfOk};
+ghost use Rattle.drt_model.specs.Numbers.{most_work};
 ghost use Rattle.drt_steps.specs.Jumps.{total_rise, levels};
 
 use crate::jump::Jump;
@@ -36,7 +37,7 @@ pub(crate) fn one_more(
     new: Jump,
 ) -> Result<Rises, AllocError>
     requires levels { rises.now.levels.items ≡ levels base rises.now.jumps.items }
-    requires small { base + total_rise rises.now.jumps.items + new.rise ≤ 1000000000000 }
+    requires small { base + total_rise rises.now.jumps.items + new.rise ≤ most_work }
     ensures jumps { IfOk result (λ r. r.jumps.items ≡ rises.now.jumps.items ++ new ∷ []) }
     ensures levels { IfOk result (λ r. r.levels.items ≡ levels base r.jumps.items) }
 {

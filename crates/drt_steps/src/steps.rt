@@ -2,7 +2,7 @@
 ghost use Rattle.std.specs.Prelude.{◌≡◌, ℕ, ◌+◌, ◌≤◌, ◌<◌, true, false, length, replicate, reverse, IfOk};
 ghost use Rattle.std.specs.Ordering.{nat_cmp};
 ghost use Rattle.std.specs.Cmp.Lexicographic.{slice_cmp};
-ghost use Rattle.drt_model.specs.Numbers.{most_time};
+ghost use Rattle.drt_model.specs.Numbers.{most_time, most_work};
 ghost use Rattle.drt_steps.specs.Values.{raise, value_at, covers, max_of};
 ghost use Rattle.drt_steps.specs.Jumps.{values, AreKept, IsFunctionKept, AreMarks};
 ghost use Rattle.drt_steps.specs.Samples.{samples_of};
@@ -94,7 +94,7 @@ impl Steps {
     pub fn flat(alloc: Global, bound: u64, value: u64) -> Result<Steps, AllocError>
         requires from { 1 ≤ bound }
         requires to { bound ≤ most_time }
-        requires value { value ≤ 1000000000000 }
+        requires value { value ≤ most_work }
         ensures { IfOk result (λ s. s ≡ replicate bound value) }
     {
         Steps::from_jumps(alloc, bound, value, Vec::new(alloc))
@@ -126,7 +126,7 @@ impl Steps {
         requires from { 1 ≤ t }
         requires to { t ≤ length self.now }
         ensures value { result ≡ value_at self.now t }
-        ensures small { result ≤ 1000000000000 }
+        ensures small { result ≤ most_work }
         ensures rises { (s : ℕ) → t ≤ s → s ≤ length self.now → result ≤ value_at self.now s }
     {
         level_after(
@@ -142,7 +142,7 @@ impl Steps {
         requires from { 1 ≤ t }
         requires to { t ≤ length self.now }
         ensures value { result ≡ value_at self.now t }
-        ensures small { result ≤ 1000000000000 }
+        ensures small { result ≤ most_work }
         ensures rises { (s : ℕ) → t ≤ s → s ≤ length self.now → result ≤ value_at self.now s }
     {
         let jumps = jumps_of(&self.rises);
@@ -153,7 +153,7 @@ impl Steps {
 
     /// The function with `work` more at each time later than `offset`.
     pub fn raise_after(&self, alloc: Global, offset: u64, work: u64) -> Result<Steps, AllocError>
-        requires { (t : ℕ) → offset < t → t ≤ length self.now → value_at self.now t + work ≤ 1000000000000 }
+        requires { (t : ℕ) → offset < t → t ≤ length self.now → value_at self.now t + work ≤ most_work }
         ensures { IfOk result (λ s. s ≡ raise offset work self.now) }
     {
         if offset >= self.bound {

@@ -1,6 +1,6 @@
 //! The least time by which a job and the work ahead of it are done.
 ghost use Rattle.std.specs.Prelude.{◌≡◌, ℕ, ◌+◌, ◌*◌, ◌≤◌, length};
-ghost use Rattle.drt_model.specs.Numbers.{most_time};
+ghost use Rattle.drt_model.specs.Numbers.{most_time, most_work};
 ghost use Rattle.drt_steps.specs.Time.{IsLeastTimeOf, AreChosen, sum_at};
 
 use crate::steps::Steps;
@@ -12,7 +12,7 @@ fn sum_of(pool: &[Steps], chosen: &[u32], places: &mut [usize; 31], t: u64, dead
     requires chosen { AreChosen deadline pool.now chosen.now }
     requires few { length chosen.now ≤ 31 }
     ensures value { result ≡ sum_at pool.now chosen.now t }
-    ensures small { result ≤ 31 * 1000000000000 }
+    ensures small { result ≤ 31 * most_work }
     ensures rises { (s : ℕ) → t ≤ s → s ≤ deadline → result ≤ sum_at pool.now chosen.now s }
 {
     let mut sum = 0;

@@ -57,6 +57,21 @@ impl<L: Label> Table<L> {
         self.log.as_slice()
     }
 
+    /// The log, in order, where the table is no longer needed.
+    pub fn into_log(self) -> Vec<Entry>
+        ensures { result.items ≡ self.log }
+    {
+        let Table { log, .. } = self;
+        log
+    }
+
+    /// Does nothing: it shows that the log is a run, and that the state is what its replay gives.
+    pub fn keep_run(&self)
+        ensures { IsTable L.algebra self.now }
+    {
+        let _log = self.log();
+    }
+
     /// Whether no node is pending and none is taken. Then the kept labels are exactly the labels of in-range walks that
     /// no different one dominates, each once.
     pub fn finished(&self) -> bool

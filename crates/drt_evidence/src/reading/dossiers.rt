@@ -1,5 +1,6 @@
 //! A whole dossier, and where bytes stop being one.
 ghost use Rattle.std.specs.Prelude.{◌≡◌, ◌≤◌, ◌+◌, ◌-◌, ℕ, List, length, take, IfOk, IfErr};
+ghost use Rattle.drt_model.specs.Numbers.{most_text};
 ghost use Rattle.drt_file.specs.trusted.Canonical.{written};
 ghost use Rattle.drt_file.specs.trusted.CanonicalPrefix.{line_count};
 ghost use Rattle.drt_evidence.specs.Blocks.{IsStop, ReadsBlock};
@@ -30,7 +31,7 @@ fn read_head(text: &mut Text) -> Result<Policy, Stop>
 
 // The dossier whose text stands at the front of a text.
 fn read_dossier(alloc: Global, from: &mut Text) -> Result<Dossier, Stop>
-    requires { length from.old.rest.now ≤ 1073741824 }
+    requires { length from.old.rest.now ≤ most_text }
     ensures read { IfOk result (λ d. ReadsBlock text IsStated from.old.rest.now d from.new.rest.now) }
     ensures stops { IfErr result (IsStop text IsStated from.old.rest.now) }
 {
@@ -54,7 +55,7 @@ fn feeds_in(bytes: &[u8]) -> usize
 
 // The line, counted from 1, that so many last bytes begin with.
 fn line_at(bytes: &[u8], left: usize) -> u32
-    requires size { length bytes.now ≤ 1073741824 }
+    requires size { length bytes.now ≤ most_text }
     requires within { left ≤ length bytes.now }
     ensures { result ≡ 1 + line_count (take (length bytes.now - left) bytes.now) }
 {
@@ -65,7 +66,7 @@ fn line_at(bytes: &[u8], left: usize) -> u32
 ///
 /// Lists take the room of what follows, and none by the count above them.
 pub fn read(alloc: Global, bytes: &[u8]) -> Result<Dossier, DossierError>
-    requires { length bytes.now ≤ 1073741824 }
+    requires { length bytes.now ≤ most_text }
     ensures read { IfOk result (λ d. bytes.now ≡ text d) }
     ensures found { (s : Statement) → IsDossierText s bytes.now → GivesStatement result s }
     ensures fault { IfErr result (IsDossierCause bytes.now) }
@@ -85,7 +86,7 @@ pub fn read(alloc: Global, bytes: &[u8]) -> Result<Dossier, DossierError>
 
 // Why a text that stops there is none of a dossier.
 fn cause_of(bytes: &[u8], stop: Stop) -> DossierError
-    requires size { length bytes.now ≤ 1073741824 }
+    requires size { length bytes.now ≤ most_text }
     requires stops { IsStop text IsStated bytes.now stop }
     ensures fault { IsDossierCause bytes.now result }
     ensures none { (s : Statement) → IsDossierText s bytes.now → result ≡ Memory }
@@ -104,7 +105,7 @@ fn cause_of(bytes: &[u8], stop: Stop) -> DossierError
 
 // The fault of the line that so many last bytes begin with.
 fn fault(bytes: &[u8], left: usize, code: u8) -> DossierError
-    requires size { length bytes.now ≤ 1073741824 }
+    requires size { length bytes.now ≤ most_text }
     requires within { left ≤ length bytes.now }
     ensures { result ≡ Fault (record { line = 1 + line_count (take (length bytes.now - left) bytes.now); code = code }) }
 {

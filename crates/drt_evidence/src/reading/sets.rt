@@ -1,5 +1,6 @@
 //! The set in the middle of a dossier.
 ghost use Rattle.std.specs.Prelude.{◌≡◌, ◌≤◌, ◌<◌, ◌+◌, ℕ, List, length, IfOk, IfErr};
+ghost use Rattle.drt_model.specs.Numbers.{most_text};
 ghost use Rattle.drt_file.specs.trusted.Canonical.{canonical};
 ghost use Rattle.drt_file.specs.trusted.CanonicalPrefix.{line_count};
 ghost use Rattle.drt_evidence.specs.Blocks.{IsBehind, IsSet, IsStop, ReadsBlock};
@@ -27,7 +28,7 @@ fn bytes_from(text: &[u8], line: u32) -> usize
 
 // The set whose canonical text stands at the front of a text.
 pub(crate) fn read_set(alloc: Global, text: &mut Text) -> Result<TaskSet, Stop>
-    requires { length text.old.rest.now ≤ 1073741824 }
+    requires { length text.old.rest.now ≤ most_text }
     ensures read { IfOk result (λ x. ReadsBlock canonical IsSet text.old.rest.now x text.new.rest.now) }
     ensures stops { IfErr result (IsStop canonical IsSet text.old.rest.now) }
 {

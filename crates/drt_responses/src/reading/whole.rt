@@ -1,5 +1,6 @@
 //! A whole text of responses, and where bytes stop being one.
 ghost use Rattle.std.specs.Prelude.{◌≡◌, ◌≤◌, ◌+◌, ◌-◌, ℕ, List, length, take, IfOk, IfErr};
+ghost use Rattle.drt_model.specs.Numbers.{most_text};
 ghost use Rattle.drt_file.specs.trusted.CanonicalPrefix.{line_count};
 ghost use Rattle.drt_evidence.specs.Blocks.{ReadsBlock};
 ghost use Rattle.drt_responses.specs.Ranges.{AreResponsesInRange};
@@ -36,7 +37,7 @@ fn feeds_in(bytes: &[u8]) -> usize
 
 // The fault of the line that so many last bytes begin with.
 fn fault(bytes: &[u8], left: usize) -> ResponseError
-    requires size { length bytes.now ≤ 1073741824 }
+    requires size { length bytes.now ≤ most_text }
     requires within { left ≤ length bytes.now }
     ensures { result ≡ Fault (1 + line_count (take (length bytes.now - left) bytes.now)) }
 {
@@ -49,7 +50,7 @@ fn fault(bytes: &[u8], left: usize) -> ResponseError
 ///
 /// Lists take the room of what follows, and none by the count above them.
 pub fn read(alloc: Global, bytes: &[u8]) -> Result<Row<Response>, ResponseError>
-    requires { length bytes.now ≤ 1073741824 }
+    requires { length bytes.now ≤ most_text }
     ensures read { IfOk result (λ responses. IsResponsesText responses bytes.now) }
     ensures found { (responses : List Response) → IsResponsesText responses bytes.now → GivesResponses result responses }
     ensures fault { IfErr result (IsTextCause bytes.now) }
@@ -69,7 +70,7 @@ pub fn read(alloc: Global, bytes: &[u8]) -> Result<Row<Response>, ResponseError>
 
 // Why a text that stops there is none of responses.
 fn cause_of(bytes: &[u8], stop: Stop) -> ResponseError
-    requires size { length bytes.now ≤ 1073741824 }
+    requires size { length bytes.now ≤ most_text }
     requires stops { IsResponsesStop response_text AreResponsesInRange bytes.now stop }
     ensures fault { IsTextCause bytes.now result }
     ensures none { (responses : List Response) → IsResponsesText responses bytes.now → result ≡ Memory }

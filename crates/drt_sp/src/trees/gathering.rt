@@ -38,7 +38,7 @@ pub(crate) fn gather(alloc: Global, table: &Table<RequestLabel>) -> Result<Leave
     ensures few { IfOk result (λ leaves. length leaves.labels.items ≤ length table.now.nodes) }
     ensures leaves { IfOk result (λ leaves. AreWalkLeaves table.now.bound table.now.graph (leaves_of leaves.labels.items leaves.walks.items)) }
 {
-    let _log = table.log();
+    table.keep_run();
     let mut leaves = Leaves {
         labels: Vec::new(alloc),
         walks: Vec::new(alloc),

@@ -11,8 +11,8 @@ returns-then-not-finished c =
     let setting = c.in_ok-table.ensures.setting in
     let unfinished : is_finished demand_algebra (setting_of c.in_ok-table.table) (state_of c.in_ok-table.table) ≡ false = cc (c.finished.ensures.finished, c.if-not-finished.true) in
     let s = full_search c.over_every_interleaving.ensures.short c.over_every_interleaving.ensures.slots c.args.graph.now c.args.bound c.args.effort.budget
-    c.in_ok-table.table c.in_ok-table._reply setting c.log.ensures.replayed c.in_ok-table.ensures.stops unfinished in
-    let same : c.from_vec.result ≡ c.in_ok-table.table.log = c.from_vec.ensures ∙ (c.in_ok-log.ensures.items ∙ c.log.ensures.log) in
+    c.in_ok-table.table c.in_ok-table._reply setting c.keep_run.ensures c.in_ok-table.ensures.stops unfinished in
+    let same : c.from_vec.result ≡ c.in_ok-table.table.log = c.from_vec.ensures ∙ c.into_log.ensures in
     rw same s
 
 pub front_of-requires-clause-graph : goal.front_of-requires-clause-graph

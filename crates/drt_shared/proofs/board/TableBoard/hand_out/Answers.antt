@@ -9,7 +9,7 @@ use Rattle.drt_shared.proofs.board.TableBoard.hand_out.Goals as goal
 pub invariant_of-self : goal.invariant_of-self
 invariant_of-self g c =
     let can = subst (λ v. CanHandOut v c.args.node) (sym c.self.view_is) c.requires in
-    (c.keeps_its_run.ensures, handed_spares c.self.inside.table c.hand_out-label.new.self _ c.self.invariant.1 can c.hand_out-label.ensures.nodes)
+    (c.keep_run.ensures, handed_spares c.self.inside.table c.hand_out-label.new.self _ c.self.invariant.1 can c.hand_out-label.ensures.nodes)
 
 pub returns-clause-label : goal.returns-clause-label
 returns-clause-label g c =

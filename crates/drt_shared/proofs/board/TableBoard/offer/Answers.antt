@@ -16,6 +16,6 @@ apply-requires-clause-comes g c κs within =
 pub returns : goal.returns
 returns g c =
     let laws = (g.met.L.Label g.world.𝓛 g.world.𝓜 g.world.𝓡 ((λ s x. x), (λ x. x), (λ x. x), λ x. x)).laws in
-    let table = subst (λ v. IsTable g.L.Label.algebra v) c.self.view_is c.keeps_its_run.ensures in
+    let table = subst (λ v. IsTable g.L.Label.algebra v) c.self.view_is c.keep_run.ensures in
     let more = has_more g.L.Label.algebra laws c.args.self.now c.args.worker c.args.holding.now c.requires.expected c.in-Some.h c.in-Some.is table c.args.edge c.args.label c.requires.can in
     offer_call g.L.Label.algebra _ _ _ _ _ _ _ c.apply.ensures more

@@ -69,7 +69,7 @@ returns-in_ok-push-in-Tree-2-clause-grown g c =
     = rw (c.in-Tree.is, graph, until) at c.in_ok-tree.ensures in
     rw (c.in_ok-push-in-Tree.ensures.items, c.in_ok-push-in-Tree-2.ensures.items)
     (grown_more tasks order place k at f c.plant_tree.new.forest roots trees c.requires.grown c.show_sound.ensures t.grows t.functions t.room
-    c.in-Tree.tree.low c.in-Tree.tree.top c.in-Tree.tree.claim t.stands t.count t.claim t.rules t.range)
+    c.in-Tree.tree.low c.in-Tree.tree.top c.in-Tree.tree.claim t.begins t.ends t.stands t.count t.claim t.rules t.range)
 
 pub returns-in_ok-push-in-Tree-2-clause-proved : goal.returns-in_ok-push-in-Tree-2-clause-proved
 returns-in_ok-push-in-Tree-2-clause-proved g c =

@@ -10,7 +10,7 @@ use Rattle.drt_sp.proofs.trees.gathering.gather.Goals as goal
 
 pub overflow_cast-id-end : goal.overflow_cast-id-end
 overflow_cast-id-end c =
-    let l : length c.args.table.now.nodes < 4294967296 = nodes_small request_algebra request_laws c.args.table.now c.log-log.ensures.replayed in
+    let l : length c.args.table.now.nodes < 4294967296 = nodes_small request_algebra request_laws c.args.table.now c.keep_run.ensures in
     omega (arith, l, c.node_count-id-end.ensures)
 
 pub returns-clause-leaves : goal.returns-clause-leaves
@@ -20,4 +20,4 @@ returns-clause-leaves c =
     let e : c.nodes.id ≡ length v.nodes = omega (arith, c.nodes-test.false, c.nodes.auto.id-end, c.node_count-id-end.ensures) in
     let ls = leaves_of leaves.labels.items leaves.walks.items in
     let are = subst (λ k. AreLeavesGathered (setting_of v) (state_of v).nodes k ls) e c.nodes.invariant.gathered in
-    gathered_leaves v c.log-log.ensures.replayed c.requires.front ls are
+    gathered_leaves v c.keep_run.ensures c.requires.front ls are
