@@ -10,7 +10,7 @@ use Rattle.drt_claims.specs.Proofs.{tree_sum_at}
 use Rattle.drt_claims.specs.Trees.{IsTree}
 use Rattle.drt_claims.specs.declared.evidence.TreeClaim.{TreeClaim}
 use Rattle.drt_check_values.specs.declared.query.Query.{Query}
-use Rattle.drt_check_values.specs.Values.{AreLeft, AreWithin, query_value, query_values}
+use Rattle.drt_check_values.specs.Values.{AreLeft, AreValuesWithin, query_value, query_values}
 use Rattle.drt_check_proofs.specs.Points.{AreRooms, IsPoint, IsTimely, Mark, Point, query, room, used}
 use Rattle.drt_check_proofs.proofs.Sums.{used_first, used_more, used_most}
 
@@ -76,7 +76,7 @@ rooms_more graphs trees i g tree ps qs rooms next at_g at_tree is ready asked so
 -- Where all points pass, the values fit.
 pub values_fit : (graphs : List Digraph) (trees : List TreeClaim) (i : ℕ) (g : Digraph) (tree : TreeClaim) (ps : List Point) (qs : List Query) (rooms : List ℕ)
     → slice_get graphs i ≡ Some g → slice_get trees i ≡ Some tree → IsTree tree → AreReady ps → qs ≡ map (query i) ps → AreRooms graphs trees i ps rooms
-    → AllByRecursion (IsPoint graphs trees) ps → AreWithin (query_values g tree qs) rooms
+    → AllByRecursion (IsPoint graphs trees) ps → AreValuesWithin (query_values g tree qs) rooms
 values_fit graphs trees i g tree ps qs rooms at_g at_tree is ready asked so_far all k m =
     let many : length (query_values g tree qs) ≡ length ps = length-map qs (query_value g tree) ∙ (ap length asked ∙ length-map ps (query i)) in
     let l : k < length ps = omega (arith, many) in

@@ -48,15 +48,15 @@ parts_within tree n p is e = go (cases_lt n (length tree.walks))
     go (inr l) = by_pair (slice_get tree.pairs (n - length tree.walks)) refl (rw (le-ltb n (length tree.walks) l) at e)
 
 -- The nodes are the tree's.
-abbrev pub AreWithin : TreeClaim → List ℕ → Type 0
-AreWithin tree nodes = AllByRecursion (λ n. n < size tree) nodes
+abbrev pub AreValuesWithin : TreeClaim → List ℕ → Type 0
+AreValuesWithin tree nodes = AllByRecursion (λ n. n < size tree) nodes
 
 -- They are, if there are some.
 abbrev pub AreWithinIn : TreeClaim → Option (List ℕ) → Type 0
 AreWithinIn tree None = Unit {0}
-AreWithinIn tree (Some nodes) = AreWithin tree nodes
+AreWithinIn tree (Some nodes) = AreValuesWithin tree nodes
 
-after_within : (tree : TreeClaim) (i : ℕ) (item : Item) (nodes : List ℕ) → IsTree tree → AreWithin tree nodes → AreWithinIn tree (after_at tree i item nodes)
+after_within : (tree : TreeClaim) (i : ℕ) (item : Item) (nodes : List ℕ) → IsTree tree → AreValuesWithin tree nodes → AreWithinIn tree (after_at tree i item nodes)
 after_within tree i item [] is all = tt
 after_within tree i (Pass t) (n ∷ nodes) is all = all.1
 after_within tree i (Split place) (n ∷ nodes) is all = by_test (place == i)
@@ -69,7 +69,7 @@ after_within tree i (Split place) (n ∷ nodes) is all = by_test (place == i)
     by_test true = by_parts (node_parts tree n) refl
     by_test false = (all.0, (all.0, all.1))
 
-asks_within : (tree : TreeClaim) (item : Item) (nodes : List ℕ) → AreWithin tree nodes → AllByRecursion (IsWithin tree) (asks_at item nodes)
+asks_within : (tree : TreeClaim) (item : Item) (nodes : List ℕ) → AreValuesWithin tree nodes → AllByRecursion (IsWithin tree) (asks_at item nodes)
 asks_within tree (Pass t) [] all = tt
 asks_within tree (Pass t) (n ∷ nodes) all = (all.0, tt)
 asks_within tree (Split place) nodes all = tt

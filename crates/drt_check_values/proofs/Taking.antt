@@ -14,8 +14,8 @@ use Rattle.std.specs.List.{IsDistinct}
 use Rattle.drt_check_values.specs.declared.query.Query.{Query}
 use Rattle.drt_check_values.specs.declared.rises.Rise.{Rise}
 use Rattle.drt_check_values.specs.Rises.{added, risen_at_place}
-use Rattle.drt_check_values.specs.Values.{AreLeft, AreWithin}
-use Rattle.drt_check_values.specs.Sweeps.{AreReady, HasRunOfPlaces, IsInOrder, IsTaken, answer, heights, no_query, no_rise, time_of, total_at_place, totals, whole_rise}
+use Rattle.drt_check_values.specs.Values.{AreLeft, AreValuesWithin}
+use Rattle.drt_check_values.specs.Sweeps.{AreReady, HasRunOfPlaces, IsInOrder, IsTaken, answer, heights, no_query, no_rise, query_time, total_at_place, totals, whole_rise}
 
 totals_at : (rises : List Rise) (count p : ℕ) → p < count → get_or (totals rises count) p 0 ≡ total_at_place rises p
 totals_at rises count p l = get_or-map-range_with_len (λ p. total_at_place rises p) 0 count p p 0 l (omega arith)
@@ -170,7 +170,7 @@ turn queries order j = get_or queries (get_or order j 0) no_query
 -- After k turns, where the rooms were those before.
 pub record IsSwept (queries : List Query) (order firsts sizes : List ℕ) (count : ℕ) (rises : List Rise) (before : List ℕ) (k done : ℕ) (reached rooms : List ℕ) : Type 0 where
   pub width : length reached ≡ count
-  pub taken : (j : ℕ) → k ≤ j → j < length order → IsTaken rises done (time_of queries (get_or order j 0)) reached
+  pub taken : (j : ℕ) → k ≤ j → j < length order → IsTaken rises done (query_time queries (get_or order j 0)) reached
   pub many : length rooms ≡ length before
   pub left : (j : ℕ) → j < k → j < length order → get_or rooms (get_or order j 0) 0 + answer firsts sizes count rises (turn queries order j) ≡ get_or before (get_or order j 0) 0
   pub same : (j : ℕ) → k ≤ j → j < length order → get_or rooms (get_or order j 0) 0 ≡ get_or before (get_or order j 0) 0
@@ -210,7 +210,7 @@ swept_first queries order firsts sizes count rises before reached e = record {
   width = wide;
   taken = λ j l m. record {
     within = omega arith;
-    early = All-nil (λ (r : Rise). r.offset < time_of queries (get_or order j 0));
+    early = All-nil (λ (r : Rise). r.offset < query_time queries (get_or order j 0));
     sums = e ∙ (totals_none count ∙ ap (totals []) (sym wide));
   };
   many = refl;
@@ -224,22 +224,22 @@ swept_first queries order firsts sizes count rises before reached e = record {
 -- What is found at a turn is the answer to its query.
 pub answer_found : (queries : List Query) (order firsts sizes : List ℕ) (count : ℕ) (rises : List Rise) (before : List ℕ) (k taken taken' value : ℕ) (reached reached' rooms : List ℕ)
     → AreReady count rises → IsSwept queries order firsts sizes count rises before k taken reached rooms
-    → IsTaken rises taken' (time_of queries (get_or order k 0)) reached' → length reached' ≡ length reached
-    → (taken' < length rises → time_of queries (get_or order k 0) ≤ (rise_of rises taken').offset)
-    → (reached' ≡ heights rises count (time_of queries (get_or order k 0)) → value ≡ answer firsts sizes count rises (turn queries order k))
+    → IsTaken rises taken' (query_time queries (get_or order k 0)) reached' → length reached' ≡ length reached
+    → (taken' < length rises → query_time queries (get_or order k 0) ≤ (rise_of rises taken').offset)
+    → (reached' ≡ heights rises count (query_time queries (get_or order k 0)) → value ≡ answer firsts sizes count rises (turn queries order k))
     → value ≡ answer firsts sizes count rises (turn queries order k)
 answer_found queries order firsts sizes count rises before k taken taken' value reached reached' rooms ready swept new same late answers =
-    answers (all_early rises taken' (time_of queries (get_or order k 0)) count reached' ready new (sym (same ∙ swept.width)) late)
+    answers (all_early rises taken' (query_time queries (get_or order k 0)) count reached' ready new (sym (same ∙ swept.width)) late)
 
 -- One turn more, at which the answer is taken from its room.
 pub swept_next : (queries : List Query) (order firsts sizes : List ℕ) (count : ℕ) (rises : List Rise) (before : List ℕ) (k taken taken' value room : ℕ) (reached reached' rooms : List ℕ)
     → IsInOrder queries order → length before ≡ length queries → k < length order → IsSwept queries order firsts sizes count rises before k taken reached rooms
-    → IsTaken rises taken' (time_of queries (get_or order k 0)) reached' → length reached' ≡ length reached
+    → IsTaken rises taken' (query_time queries (get_or order k 0)) reached' → length reached' ≡ length reached
     → value ≡ answer firsts sizes count rises (turn queries order k) → room + value ≡ get_or rooms (get_or order k 0) 0
     → IsSwept queries order firsts sizes count rises before (k + 1) taken' reached' (set rooms (get_or order k 0) room)
 swept_next queries order firsts sizes count rises before k taken taken' value room reached reached' rooms is many l swept new same found spent = record {
   width = same ∙ swept.width;
-  taken = λ j p q. taken_later rises taken' (time_of queries (get_or order k 0)) (time_of queries (get_or order j 0)) reached' (is.times k j 0 (omega arith) q) new;
+  taken = λ j p q. taken_later rises taken' (query_time queries (get_or order k 0)) (query_time queries (get_or order j 0)) reached' (is.times k j 0 (omega arith) q) new;
   many = length-set rooms (get_or order k 0) room ∙ swept.many;
   left = λ j p q. go j p q (cases_lt j k);
   same = λ j p q. get_or-set_other rooms (get_or order k 0) (get_or order j 0) room 0 (λ e. turn_once queries order is k j (omega arith) q (sym e)) ∙ swept.same j (omega arith) q;
@@ -261,7 +261,7 @@ swept_next queries order firsts sizes count rises before k taken taken' value ro
 -- Where an answer doesn't fit into its room, not all do.
 pub swept_stops : (queries : List Query) (order firsts sizes : List ℕ) (count : ℕ) (rises : List Rise) (before : List ℕ) (k taken value : ℕ) (reached rooms : List ℕ) → IsInOrder queries order
     → k < length order → IsSwept queries order firsts sizes count rises before k taken reached rooms → value ≡ answer firsts sizes count rises (turn queries order k)
-    → AreWithin (map (answer firsts sizes count rises) queries) before → value ≤ get_or rooms (get_or order k 0) 0
+    → AreValuesWithin (map (answer firsts sizes count rises) queries) before → value ≤ get_or rooms (get_or order k 0) 0
 swept_stops queries order firsts sizes count rises before k taken value reached rooms is l swept found within =
     let inside = turn_within queries order is k l in
     let at = get_or-map (answer firsts sizes count rises) queries (get_or order k 0) no_query 0 inside in
@@ -292,7 +292,7 @@ swept_all queries order firsts sizes count rises before k taken reached rooms is
         subst Spent at (all n 0 (omega (arith, inside, length-range_with_len 0 (length queries))))
 
 -- What was taken fits.
-pub within_left : (values rooms left : List ℕ) → AreLeft values rooms left → AreWithin values rooms
+pub within_left : (values rooms left : List ℕ) → AreLeft values rooms left → AreValuesWithin values rooms
 within_left values rooms left are k l = omega (arith, are k l)
 
 pub range_more : (n : ℕ) → range_with_len 0 (n + 1) ≡ range_with_len 0 n ++ n ∷ []

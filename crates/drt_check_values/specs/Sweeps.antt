@@ -17,13 +17,13 @@ abbrev pub no_query : Query
 no_query = record { node = 0; time = 0 }
 
 -- The time of query k.
-abbrev pub time_of : List Query → ℕ → ℕ
-time_of queries k = (slice_index_or queries k no_query).time
+abbrev pub query_time : List Query → ℕ → ℕ
+query_time queries k = (slice_index_or queries k no_query).time
 
 -- The numbers are those of the queries, in order of their times.
 pub record IsInOrder (queries : List Query) (order : List ℕ) : Type 0 where
   pub all : IsPermutation (range_with_len 0 (length queries)) order
-  pub times : IsNonDecreasingBy (λ k. time_of queries k) order
+  pub times : IsNonDecreasingBy (λ k. query_time queries k) order
 
 -- What a release adds to a place.
 abbrev pub whole_rise : ℕ → Rise → ℕ

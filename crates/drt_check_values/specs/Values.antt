@@ -14,8 +14,8 @@ abbrev pub query_values : Digraph → TreeClaim → List Query → List ℕ
 query_values g tree queries = map (query_value g tree) queries
 
 -- Each value fits into the room at its place.
-abbrev pub AreWithin : List ℕ → List ℕ → Type 0
-AreWithin query_values rooms = (k : ℕ) → k < length query_values → slice_index query_values k ≤ slice_index rooms k
+abbrev pub AreValuesWithin : List ℕ → List ℕ → Type 0
+AreValuesWithin query_values rooms = (k : ℕ) → k < length query_values → slice_index query_values k ≤ slice_index rooms k
 
 -- Beside each value what is left is the room at its place.
 abbrev pub AreLeft : List ℕ → List ℕ → List ℕ → Type 0

@@ -2,8 +2,8 @@
 ghost use Rattle.std.specs.Prelude.{◌≡◌, ◌+◌, ◌<◌, ◌≤◌, ◌↔◌, All, IfOk, IsTrue, length, map, slice_index_or, slice_range};
 ghost use Rattle.drt_model.specs.Numbers.{most_number};
 ghost use Rattle.drt_check_values.specs.Greatest.{greatest};
-ghost use Rattle.drt_check_values.specs.Sweeps.{AreReady, HasRunOfPlaces, IsInOrder, IsTaken, answer, heights, no_rise, time_of};
-ghost use Rattle.drt_check_values.specs.Values.{AreLeft, AreWithin};
+ghost use Rattle.drt_check_values.specs.Sweeps.{AreReady, HasRunOfPlaces, IsInOrder, IsTaken, answer, heights, no_rise, query_time};
+ghost use Rattle.drt_check_values.specs.Values.{AreLeft, AreValuesWithin};
 
 use crate::greatest_values::GreatestValues;
 use crate::places::Places;
@@ -29,7 +29,7 @@ pub(crate) fn sweep(
     requires runs { All (HasRunOfPlaces places.now.firsts.items places.now.sizes.items count) queries.now }
     requires rises { AreReady count rises.now }
     requires rooms { length rooms.old ≡ length queries.now }
-    ensures fits { IfOk result (λ fit. IsTrue fit ↔ AreWithin (map (answer places.now.firsts.items places.now.sizes.items count rises.now) queries.now) rooms.old) }
+    ensures fits { IfOk result (λ fit. IsTrue fit ↔ AreValuesWithin (map (answer places.now.firsts.items places.now.sizes.items count rises.now) queries.now) rooms.old) }
     ensures left { IfOk result (λ fit. IsTrue fit → AreLeft (map (answer places.now.firsts.items places.now.sizes.items count rises.now) queries.now) rooms.old rooms.new) }
     ensures count { length rooms.new ≡ length rooms.old }
 {
@@ -101,7 +101,7 @@ pub(crate) fn in_order(alloc: Global, queries: &[Query]) -> Result<Vec<u32>, Mem
     }
     order.sort_unstable_by_key(
         |k: &u32| -> u32
-            ensures { result ≡ time_of queries.entry.now k.now }
+            ensures { result ≡ query_time queries.entry.now k.now }
         { time_at(queries, *k as usize) },
     );
     Ok(order)
@@ -109,7 +109,7 @@ pub(crate) fn in_order(alloc: Global, queries: &[Query]) -> Result<Vec<u32>, Mem
 
 // The time of a query, and 0 past the last one.
 fn time_at(queries: &[Query], k: usize) -> u32
-    ensures { result ≡ time_of queries.now k }
+    ensures { result ≡ query_time queries.now k }
 {
     match queries.get(k) {
         Some(query) => query.time,

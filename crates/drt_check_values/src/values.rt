@@ -4,7 +4,7 @@ ghost use Rattle.drt_model.specs.Numbers.{most_time};
 ghost use Rattle.drt_model.specs.Digraph.{IsSoundGraph};
 ghost use Rattle.drt_claims.specs.Ranges.{IsInRangeTree};
 ghost use Rattle.drt_claims.specs.Trees.{HasShortWalks, IsTree};
-ghost use Rattle.drt_check_values.specs.Values.{AreLeft, AreWithin, query_values};
+ghost use Rattle.drt_check_values.specs.Values.{AreLeft, AreValuesWithin, query_values};
 
 use crate::places::places_of;
 use crate::query::Query;
@@ -35,7 +35,7 @@ pub fn take_values(
     requires ranges { IsInRangeTree tree.now }
     requires nodes { All (λ q. q.node < length tree.now.walks + length tree.now.pairs) queries.now }
     requires count { length rooms.old ≡ length queries.now }
-    ensures fits { IfOk result (λ fit. IsTrue fit ↔ AreWithin (query_values graph.now tree.now queries.now) rooms.old) }
+    ensures fits { IfOk result (λ fit. IsTrue fit ↔ AreValuesWithin (query_values graph.now tree.now queries.now) rooms.old) }
     ensures left { IfOk result (λ fit. IsTrue fit → AreLeft (query_values graph.now tree.now queries.now) rooms.old rooms.new) }
     ensures count { length rooms.new ≡ length rooms.old }
 {

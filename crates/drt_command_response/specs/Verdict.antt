@@ -18,16 +18,16 @@ abbrev pub is_response : List (List ℕ) → Bool
 is_response words = bytes_eq (slice_index_or words 0 []) (codes "response")
 
 -- The vertices of tasks, of which the first has the number k, in order: each by the numbers of its task and of itself.
-abbrev pub vertices_from : ℕ → List Task → List (ℕ × ℕ)
-vertices_from k [] = []
-vertices_from k (t ∷ tasks) = map (λ v. (k, v)) (range_with_len 0 (length t.vertices)) ++ vertices_from (k + 1) tasks
+abbrev pub vertices_in_order : ℕ → List Task → List (ℕ × ℕ)
+vertices_in_order k [] = []
+vertices_in_order k (t ∷ tasks) = map (λ v. (k, v)) (range_with_len 0 (length t.vertices)) ++ vertices_in_order (k + 1) tasks
 
 -- The set is schedulable, and the text has a line for each vertex of each task, in order of the file, with its greatest response time; none of
 -- its other lines is that of a response.
 pub record IsGreatestText (set : Contents) (written : List ℕ) : Type 0 where
   pub schedulable : Schedulable set.tasks Fixed
   pub responses : List Response
-  pub are : map (λ r. (r.task, r.vertex)) responses ≡ vertices_from 0 set.tasks
+  pub are : map (λ r. (r.task, r.vertex)) responses ≡ vertices_in_order 0 set.tasks
   pub greatest : All (λ r. IsGreatestResponse set.tasks r.task r.vertex r.ticks) responses
   pub lines : filter is_response (said written) ≡ map response_line responses
 

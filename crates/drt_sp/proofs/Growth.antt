@@ -18,7 +18,7 @@ use Rattle.drt_claims.specs.Ranges.{IsInRangeTree}
 use Rattle.drt_claims.specs.Trees.{greatest_deadline}
 use Rattle.drt_claims.specs.declared.evidence.ProofClaim.{ProofClaim}
 use Rattle.drt_claims.specs.declared.evidence.TreeClaim.{TreeClaim}
-use Rattle.drt_sp.specs.Claims.{AreClaimsOf, begins, behind}
+use Rattle.drt_sp.specs.Claims.{AreClaimsOf, begins, trees_end}
 use Rattle.drt_sp.specs.Progress.{AreTreesGrown, AreProofsAt, AreProved, IsProofAt, first_graphs}
 use Rattle.drt_sp.specs.TreeClaims.{IsClaimOf, IsTreeOf}
 use Rattle.drt_sp.specs.Vertices.{AreVertexProofs, IsProvedVertex}
@@ -56,13 +56,13 @@ claims_push bound f x low top claim is (y ∷ graphs) (l ∷ lows) (t ∷ tops) 
 claims_push bound f x low top claim is graphs lows tops claims are = absurd are
 
 -- Where trees begin, and end, with one more behind them.
-begins_push : (low : ℕ) (tops : List ℕ) (top : ℕ) → begins low (tops ++ top ∷ []) ≡ begins low tops ++ behind low tops ∷ []
+begins_push : (low : ℕ) (tops : List ℕ) (top : ℕ) → begins low (tops ++ top ∷ []) ≡ begins low tops ++ trees_end low tops ∷ []
 begins_push low [] top = refl
 begins_push low (t ∷ tops) top = ap (λ (ns : List ℕ). low ∷ ns) (begins_push (t + 1) tops top)
 
-behind_push : (low : ℕ) (tops : List ℕ) (top : ℕ) → behind low (tops ++ top ∷ []) ≡ top + 1
-behind_push low [] top = refl
-behind_push low (t ∷ tops) top = behind_push (t + 1) tops top
+trees_end_push : (low : ℕ) (tops : List ℕ) (top : ℕ) → trees_end low (tops ++ top ∷ []) ≡ top + 1
+trees_end_push low [] top = refl
+trees_end_push low (t ∷ tops) top = trees_end_push (t + 1) tops top
 
 module _ (tasks : List Task) (bound : ℕ) (f g : Plain) (grows : Grows f g) (forest : IsForest f) where
   trees_stay : (order roots : List ℕ) → AreNodes f roots → AreTrees tasks order bound f roots → AreTrees tasks order bound g roots
@@ -101,7 +101,7 @@ grown_more tasks order m k at f g roots trees grown forest grows bounds few low 
       few_leaves = more_few tasks order f g roots k top claim here nodes grows tree leaf_count grown.few_leaves;
       claimed = subst (λ gs. AreClaimsOf bound g gs (begins 0 (roots ++ top ∷ [])) (roots ++ top ∷ []) (trees ++ claim ∷ [])) (sym graphs)
           (subst (λ ns. AreClaimsOf bound g (first_graphs tasks order m ++ graph_at tasks k ∷ []) ns (roots ++ top ∷ []) (trees ++ claim ∷ [])) lows claims);
-      ends = end ∙ sym (behind_push 0 roots top);
+      ends = end ∙ sym (trees_end_push 0 roots top);
       exact = subst (λ gs. Each (IsTreeOf bound) gs (trees ++ claim ∷ [])) (sym graphs) (each_push (IsTreeOf bound) (first_graphs tasks order m) trees (graph_at tasks k) claim grown.exact tree);
       range = All-push IsInRangeTree trees claim grown.range range;
     }

@@ -12,9 +12,9 @@ begins low [] = []
 begins low (top ∷ tops) = low ∷ begins (top + 1) tops
 
 -- The first node behind such trees.
-abbrev pub behind : ℕ → List ℕ → ℕ
-behind low [] = low
-behind low (top ∷ tops) = behind (top + 1) tops
+abbrev pub trees_end : ℕ → List ℕ → ℕ
+trees_end low [] = low
+trees_end low (top ∷ tops) = trees_end (top + 1) tops
 
 -- There is one claim for each graph, and one root and one lowest number: the claim is the tree of the forest from this number up to this
 -- root.

@@ -13,7 +13,7 @@ use Rattle.drt_claims.specs.Ranges.{IsInRangeProof, IsInRangeTree}
 use Rattle.drt_claims.specs.Trees.{greatest_deadline}
 use Rattle.drt_claims.specs.declared.evidence.ProofClaim.{ProofClaim}
 use Rattle.drt_claims.specs.declared.evidence.TreeClaim.{TreeClaim}
-use Rattle.drt_sp.specs.Claims.{AreClaimsOf, begins, behind}
+use Rattle.drt_sp.specs.Claims.{AreClaimsOf, begins, trees_end}
 use Rattle.drt_sp.specs.Items.{AreItems}
 use Rattle.drt_sp.specs.Needs.{AreFewLeaves}
 use Rattle.drt_sp.specs.TreeClaims.{IsTreeOf}
@@ -31,7 +31,7 @@ pub record AreTreesGrown (tasks : List Task) (order : List ℕ) (m : ℕ) (f : P
   pub stand : AreTrees tasks order (greatest_deadline tasks) f roots
   pub few_leaves : AreFewLeaves tasks order f roots
   pub claimed : AreClaimsOf (greatest_deadline tasks) f (first_graphs tasks order m) (begins 0 roots) roots trees
-  pub ends : length f.nodes ≡ behind 0 roots
+  pub ends : length f.nodes ≡ trees_end 0 roots
   pub exact : Each (IsTreeOf (greatest_deadline tasks)) (first_graphs tasks order m) trees
   pub range : All IsInRangeTree trees
 

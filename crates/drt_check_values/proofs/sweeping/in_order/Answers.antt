@@ -2,7 +2,7 @@ use Rattle.std.proofs.Common.{rules, ◌≡◌, ◌++◌, ◌∷◌, [], List, �
 use Rattle.std.specs.List.{range_with_len}
 use Rattle.std.specs.List.Sorted.{IsPermutation}
 use Rattle.std.proofs.lemmas.List.Sorted.{IsNonDecreasingBy-from_sort_by_key}
-use Rattle.drt_check_values.specs.Sweeps.{time_of}
+use Rattle.drt_check_values.specs.Sweeps.{query_time}
 use Rattle.drt_check_values.proofs.Taking.{range_more}
 use Rattle.drt_check_values.proofs.sweeping.in_order.Goals as goal
 
@@ -16,5 +16,5 @@ returns c =
     let perm = subst (λ (xs : List ℕ). IsPermutation xs items) c.loop-k.invariant c.sort_unstable_by_key.ensures.permutation in
     record {
       all = subst (λ n. IsPermutation (range_with_len 0 n) items) count perm;
-      times = IsNonDecreasingBy-from_sort_by_key (λ k. time_of c.args.queries.now k) items c.sort_unstable_by_key.ensures.sorted (λ a r q k. search rules);
+      times = IsNonDecreasingBy-from_sort_by_key (λ k. query_time c.args.queries.now k) items c.sort_unstable_by_key.ensures.sorted (λ a r q k. search rules);
     }

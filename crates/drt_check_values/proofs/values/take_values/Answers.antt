@@ -2,7 +2,7 @@ use Rattle.std.proofs.Common.{ℕ, List, length, ap, sym, subst, All}
 use Rattle.std.specs.Prelude.{◌↔◌, IsTrue}
 use Rattle.drt_check_values.specs.declared.rises.Rise.{Rise}
 use Rattle.drt_check_values.specs.Sweeps.{AreReady, HasRunOfPlaces}
-use Rattle.drt_check_values.specs.Values.{AreLeft, AreWithin}
+use Rattle.drt_check_values.specs.Values.{AreLeft, AreValuesWithin}
 use Rattle.drt_check_values.proofs.Valuing.{answers_same, has_runs, rises_ready}
 use Rattle.drt_check_values.proofs.values.take_values.Goals as goal
 
@@ -26,7 +26,7 @@ returns-clause-fits c =
     answers_same c.args.graph.now c.args.tree.now c.requires.tree c.in_ok-places.places.firsts.items c.in_ok-places.places.sizes.items c.in_ok-rises.rises.items c.put_in_order.new.rises.items
     c.as_slice-3.result.now (length c.as_slice-count.result.now) c.args.queries.now c.in_ok-places.ensures.firsts c.in_ok-places.ensures.sizes c.in_ok-rises.ensures c.put_in_order.ensures.same
     c.requires.nodes c.as_slice-3.ensures.value (ap length c.as_slice-count.ensures) in
-    subst (λ (vs : List ℕ). IsTrue c.in_ok-fit.fit ↔ AreWithin vs c.args.rooms.now) same c.in_ok-fit.ensures.fits
+    subst (λ (vs : List ℕ). IsTrue c.in_ok-fit.fit ↔ AreValuesWithin vs c.args.rooms.now) same c.in_ok-fit.ensures.fits
 
 pub returns-clause-left : goal.returns-clause-left
 returns-clause-left c =
