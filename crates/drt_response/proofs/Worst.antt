@@ -45,7 +45,8 @@ module _ (version : ℕ) (tasks : List Task) (limits : IsTaskSet version tasks) 
       let first : List Walked = higher tasks others k in
       let same = higher_are tasks others k task in
       let rising = subst (λ ps. EachTail IsTail ps (take n tails)) same (zip_take (λ q tail. IsTail q.bound q.graph tail) n (sorted_places tasks) tails (tails_rising tasks tails have)) in
-      let bounding = subst (λ ps. EachTail BoundsWalks ps (take n tails)) same (zip_take (λ q tail. BoundsWalks q.bound q.graph tail) n (sorted_places tasks) tails (tails_bounding tasks tails have)) in
+      let bounding = subst (λ ps. EachTail BoundsWalks ps (take n tails)) same
+      (zip_take (λ q tail. BoundsWalks q.bound q.graph tail) n (sorted_places tasks) tails (tails_bounding tasks tails have)) in
       let states = subst (λ ps. AreStates (graphs_of_places ps) worst.states) same worst.are in
       let children = subst (λ ps. HaveDominatedChildren (graphs_of_places ps) worst.bound worst.states) same worst.children in
       let found = pass (places_in tasks first) (take n tails) (wcet (graph_at tasks k) v) worst.bound ticks worst.states

@@ -5,5 +5,7 @@ use Rattle.drt_advice.proofs.advising.probe_sentence.Goals as goal
 
 pub returns : goal.returns
 returns c =
-    let number = subst (λ (n : ℕ). IfOk c.around.result (λ text. text.items ≡ codes "with " ++ decimal n ++ codes " more ticks of this vertex: " ++ c.as_bytes.result.now)) c.from.ensures c.around.ensures in
-    subst (λ (last : List ℕ). IfOk c.around.result (λ text. text.items ≡ codes "with " ++ decimal c.args.add ++ codes " more ticks of this vertex: " ++ last)) (c.as_bytes.ensures.value ∙ c.file_sentence-limit.ensures) number
+    let number = subst (λ (n : ℕ). IfOk c.around.result (λ text. text.items ≡ codes "with " ++ decimal n ++ codes " more ticks of this vertex: " ++ c.as_bytes.result.now))
+    c.from.ensures c.around.ensures in
+    subst (λ (last : List ℕ). IfOk c.around.result (λ text. text.items ≡ codes "with " ++ decimal c.args.add ++ codes " more ticks of this vertex: " ++ last))
+    (c.as_bytes.ensures.value ∙ c.file_sentence-limit.ensures) number

@@ -7,14 +7,17 @@ use Rattle.drt_check_searches.proofs.states.have_states.Goals as goal
 pub returns-then-not-has_states : goal.returns-then-not-has_states
 returns-then-not-has_states c = (
   λ e. absurd (cc),
-  λ all. absurd (
-      all_not (HasStatesOver c.args.set.now.tasks (by_priority c.args.set.now.tasks)) c.args.searches.now c.loop-i.i c.index-searches-i.result c.loop-i-test.true c.index-searches-i.is (λ is. let e = c.has_states.ensures.1 is in cc) all
+  λ all.
+      let has_states = HasStatesOver c.args.set.now.tasks (by_priority c.args.set.now.tasks) in
+      absurd (
+      all_not has_states c.args.searches.now c.loop-i.i c.index-searches-i.result c.loop-i-test.true c.index-searches-i.is (λ is. let e = c.has_states.ensures.1 is in cc) all
       ),
 )
 
 pub loop-i-preserved : goal.loop-i-preserved
 loop-i-preserved c =
-    all_more (HasStatesOver c.args.set.now.tasks (by_priority c.args.set.now.tasks)) c.args.searches.now c.loop-i.i c.index-searches-i.result c.loop-i-test.true c.index-searches-i.is (c.has_states.ensures.0 c.if-not-has_states.false)
+    let has_states = HasStatesOver c.args.set.now.tasks (by_priority c.args.set.now.tasks) in
+    all_more has_states c.args.searches.now c.loop-i.i c.index-searches-i.result c.loop-i-test.true c.index-searches-i.is (c.has_states.ensures.0 c.if-not-has_states.false)
     c.loop-i.invariant
 
 pub returns : goal.returns
