@@ -1,7 +1,7 @@
 -- The places of tails by the numbers of their tasks, and the tasks of higher priority than one.
-use Rattle.std.proofs.Common.{◌≡◌, ℕ, zero, suc, ◌-◌, ◌<◌, ◌≤◌, inl, inr, ltb, Bool, true, false, cond, List, [], ◌∷◌, Some, None, length, map, take, get_or, refl, sym, ap, arith, ◌∙◌}
+use Rattle.std.proofs.Common.{◌≡◌, ℕ, zero, suc, ◌-◌, ◌<◌, ◌≤◌, Bool, true, false, cond, List, [], ◌∷◌, Some, None, length, map, take, get_or, refl, sym, ap, arith, ◌∙◌}
 use Rattle.std.specs.Prelude.{count_by, nat_lt, slice_get}
-use Rattle.std.proofs.lemmas.Bool.{cases_Bool, le-ltb}
+use Rattle.std.proofs.lemmas.Bool.{le-ltb}
 use Rattle.std.proofs.lemmas.List.{get_or-map, get_or-take, length-map, length-take-le}
 use Rattle.std.proofs.lemmas.List.Elements.{All-take}
 use Rattle.std.proofs.lemmas.List.Sums.{count_by-le-length, sum_by-cons}
@@ -11,27 +11,15 @@ use Rattle.drt_model.specs.Digraph.{Digraph, digraph_of}
 use Rattle.drt_graph.specs.Graphs.{graph_of, no_graph}
 use Rattle.drt_claims.specs.Claims.{graphs_of}
 use Rattle.drt_claims.specs.Searches.{lower_deadline, place_of}
-use Rattle.drt_claims.specs.Sorting.{by_priority, placed, sorted_higher_places, sorted_places}
+use Rattle.drt_claims.specs.Sorting.{by_priority, sorted_higher_places, sorted_places}
 use Rattle.drt_claims.specs.Trees.{higher_count}
+use Rattle.drt_claims.proofs.Sorting.{length-by_priority}
 use Rattle.drt_states.specs.Tails.{graphs_of_places as place_graphs}
 use Rattle.drt_check_states.specs.Places.{AreTasks, graphs_at}
 use Rattle.drt_check_trees.specs.Order.{IsPriorityOrder}
 use Rattle.drt_check_searches.specs.Places.{no_place, place_at}
 
-length-placed : (t : Task) (ts : List Task) → length (placed t ts) ≡ suc (length ts)
-unfolding placed
-length-placed t [] = refl
-length-placed t (u ∷ ts) = elim (cases_Bool (ltb t.priority u.priority)) [
-  | inl h ↦ rw h refl
-  | inr h ↦ rw h (ap suc (length-placed t ts))
-]
-
--- There are as many tasks in order as in the set, and one place fewer.
-length-by_priority : (ts : List Task) → length (by_priority ts) ≡ length ts
-unfolding by_priority
-length-by_priority [] = refl
-length-by_priority (t ∷ ts) = length-placed t (by_priority ts) ∙ ap suc (length-by_priority ts)
-
+-- There is one place fewer than tasks.
 pub places_long : (tasks : List Task) → length (sorted_places tasks) ≡ length tasks - 1
 places_long tasks =
     length-take-le (length tasks - 1) (map (place_of tasks) (by_priority tasks)) (omega (arith, length-map (by_priority tasks) (place_of tasks), length-by_priority tasks))

@@ -10,6 +10,7 @@ use Rattle.drt_model.specs.Digraph.{Digraph, digraph_of}
 use Rattle.drt_model.specs.Limits.{IsTaskSet}
 use Rattle.drt_graph.specs.Graphs.{graph_of, no_graph}
 use Rattle.drt_busy.specs.Choice.{task_at}
+use Rattle.drt_claims.proofs.Sorting.{length-by_priority}
 use Rattle.drt_claims.specs.Claims.{graphs_of}
 use Rattle.drt_claims.specs.Searches.{place_of}
 use Rattle.drt_claims.specs.Sorting.{by_priority, sorted_higher_places, sorted_places}
@@ -20,7 +21,6 @@ use Rattle.drt_check.proofs.SoundOrder.{higher_below}
 use Rattle.drt_check_states.specs.Places.{AreTasks, graphs_at}
 use Rattle.drt_check_trees.specs.Order.{IsPriorityOrder}
 use Rattle.drt_response.specs.Tails.{HaveTails}
-use Rattle.drt_response.proofs.Places.{length-by_priority}
 use Rattle.drt_response.proofs.Rises.{tails_rising}
 
 -- There is one place fewer than tasks.

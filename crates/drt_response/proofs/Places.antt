@@ -1,5 +1,5 @@
 -- In order of priority each task stands at the place that is the number of the tasks of higher priority.
-use Rattle.std.proofs.Common.{◌≡◌, ◌≢◌, ℕ, zero, suc, ◌+◌, ◌<◌, ◌≤◌, Bool, true, false, cond, List, [], ◌∷◌, get_or, length, refl, sym, ap, ◌∙◌, arith}
+use Rattle.std.proofs.Common.{◌≡◌, ◌≢◌, ℕ, suc, ◌+◌, ◌<◌, Bool, true, false, cond, List, [], ◌∷◌, get_or, refl, arith}
 use Rattle.std.specs.Prelude.{All, AllPairs, nat_lt}
 use Rattle.std.specs.List.{AllByRecursion}
 use Rattle.std.proofs.lemmas.Bool.{le-ltb, lt-ltb, ltb-false, ltb-true}
@@ -9,21 +9,6 @@ use Rattle.drt_model.specs.declared.tasks.Task.{Task}
 use Rattle.drt_model.specs.Limits.{IsTaskSet}
 use Rattle.drt_claims.specs.Trees.{higher_count}
 use Rattle.drt_claims.specs.Sorting.{by_priority, placed}
-
-length-placed : (t : Task) (ts : List Task) → length (placed t ts) ≡ suc (length ts)
-unfolding placed
-length-placed t [] = refl
-length-placed t (u ∷ ts) = go (nat_lt t.priority u.priority) (length-placed t ts)
-  where
-    go : (b : Bool) → length (placed t ts) ≡ suc (length ts) → length (cond b (t ∷ u ∷ ts) (u ∷ placed t ts)) ≡ suc (suc (length ts))
-    go true later = refl
-    go false later = ap (λ n. suc n) later
-
--- There are as many tasks in order as in the set.
-pub length-by_priority : (ts : List Task) → length (by_priority ts) ≡ length ts
-unfolding by_priority
-length-by_priority [] = refl
-length-by_priority (t ∷ ts) = length-placed t (by_priority ts) ∙ ap (λ n. suc n) (length-by_priority ts)
 
 -- What holds of a task and of all others, holds of all.
 placed_all : (P : Task → Type 0) (t : Task) (ts : List Task) → P t → AllByRecursion P ts → AllByRecursion P (placed t ts)
