@@ -34,9 +34,10 @@ fn build(
     if count == 1 {
         return Ok(low);
     }
-    let half = count - count / 2;
+    let rest = count / 2;
+    let half = count - rest;
     let left = build(alloc, nodes, pool, low, half)?;
-    let right = build(alloc, nodes, pool, low + half, count / 2)?;
+    let right = build(alloc, nodes, pool, low + half, rest)?;
     let root = nodes.len() as u32;
     let most = Steps::max_of(alloc, &pool[left as usize], &pool[right as usize])?;
     pool.push(most)?;
