@@ -29,7 +29,8 @@ pub(crate) struct States {
 }
 
 impl Model for States {
-    ghost use Rattle.std.specs.Prelude.{◌≤◌, ◌<◌, length, vec_capacity};
+    ghost use Rattle.std.specs.Prelude.{◌+◌, ◌≤◌, ◌<◌, length, vec_capacity};
+    ghost use Rattle.drt_effort.specs.Efforts.{most_budget};
     ghost use Rattle.drt_refine.specs.States.{CombinationStock, AreSorted};
 
     ghost Value = { CombinationStock };
