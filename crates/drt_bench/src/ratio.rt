@@ -8,7 +8,6 @@ ghost use Rattle.std.specs.Prelude.{◌<◌, ◌≤◌};
 use crate::input::number;
 use drt_graph::check;
 use drt_model::{Edge, Name, Row, Task, Vertex, task_set};
-use drt_num::Ratio;
 use drt_ratio::greatest;
 use drt_test_tools::Draws;
 use std::alloc::{AllocError, Global};
@@ -119,7 +118,7 @@ fn ratio(
     draws: &mut Draws,
     count: u32,
     edge_count: u32,
-) -> anyhow::Result<Ratio>
+) -> anyhow::Result<(u64, u64)>
     requires some { 1 ≤ count }
     requires few { count ≤ 96 }
     requires edges { edge_count ≤ 256 }
@@ -127,12 +126,12 @@ fn ratio(
     let mut tasks = Vec::new(alloc);
     tasks.push(task(alloc, kind, draws, count, edge_count)?)?;
     let Some(set) = task_set(2, Row::from_vec(tasks)) else {
-        return Ok(Ratio::new(0, 1));
+        return Ok((0, 1));
     };
     let graphs = check(alloc, &set)?;
     graphs.keep_limits();
     let proof = greatest(alloc, graphs.graph(0))?;
-    Ok(proof.ratio)
+    Ok((proof.num, proof.den))
 }
 
 // The kind of this name; drawn without one.
@@ -162,8 +161,8 @@ pub fn run(rt: &impl Print, alloc: Global, mut arguments: Args) -> anyhow::Resul
                 graph_count,
                 count,
                 edge_count,
-                best.num(),
-                best.den()
+                best.0,
+                best.1
             )?;
         }
     }

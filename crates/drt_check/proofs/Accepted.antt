@@ -4,7 +4,8 @@ use Rattle.drt_model.specs.Contents.{Contents}
 use Rattle.drt_model.specs.Digraph.{Digraph}
 use Rattle.drt_graph.specs.Horizon.{horizon}
 use Rattle.drt_model.specs.declared.jobs.Policy.{Policy}
-use Rattle.drt_claims.specs.Claims.{graphs_of, fractions, potentials, IsHorizon}
+use Rattle.drt_claims.specs.Claims.{graphs_of, IsHorizon}
+use Rattle.drt_rates.specs.RatioClaims.{fractions, potentials}
 use Rattle.drt_claims.specs.Fronts.{HasOpenings, IsClosedFront, IsOrdered}
 use Rattle.drt_claims.specs.Proofs.{HasPassingTimes}
 use Rattle.drt_claims.specs.Rules.{Accepts}
@@ -14,7 +15,7 @@ use Rattle.drt_claims.specs.Trees.{CoversWalks, HasShortWalks, greatest_deadline
 use Rattle.drt_claims.specs.declared.evidence.Evidence.TheVariants.{EdfYes, FixedStates, FixedYes, UtilisationOne}
 use Rattle.drt_graph.specs.declared.front.FrontEntry.{FrontEntry}
 use Rattle.drt_claims.specs.declared.evidence.ProofClaim.{ProofClaim}
-use Rattle.drt_claims.specs.declared.evidence.RatioClaim.{RatioClaim}
+use Rattle.drt_rates.specs.declared.ratio_claim.RatioClaim.{RatioClaim}
 use Rattle.drt_claims.specs.declared.evidence.TreeClaim.{TreeClaim}
 use Rattle.drt_claims.specs.declared.rule.Rule.TheVariants.{RatioPerTask, LowestTerms, PotentialPerVertex, FittingPotentials, ClosedCycles, TightCycles}
 use Rattle.drt_claims.specs.declared.rule.Rule.TheVariants.{FineScale, ClaimedUtilisation, NearHorizon, OrderedFronts, CoveredOpenings, CoveredExtensions, Room}

@@ -5,9 +5,10 @@ use Rattle.std.proofs.lemmas.Bool.{cases_lt}
 use Rattle.std.proofs.lemmas.List.{get_or_past}
 use Rattle.drt_model.specs.Digraph.{Digraph}
 use Rattle.drt_graph.specs.Potential.{potential_of}
-use Rattle.drt_claims.specs.Claims.{fraction_of, fractions, IsFine}
+use Rattle.drt_claims.specs.Claims.{IsFine}
+use Rattle.drt_rates.specs.RatioClaims.{fraction_of, fractions}
 use Rattle.drt_claims.specs.Ranges.{IsInRangePotential, IsInRangeRatio}
-use Rattle.drt_claims.specs.declared.evidence.RatioClaim.{RatioClaim}
+use Rattle.drt_rates.specs.declared.ratio_claim.RatioClaim.{RatioClaim}
 use Rattle.drt_graph.proofs.Scales.{scale_same}
 use Rattle.drt_rates.specs.Rates.{AreRated, IsSmallRatio, IsTooFine}
 
@@ -29,7 +30,7 @@ pub claims_small : (claims : List RatioClaim) → All IsInRangeRatio claims → 
 claims_small claims all k d l = small _ (all k d l)
 
 -- And where there is one for each graph, their potentials are near 0.
-pub claims_rated : (graphs : List Digraph) (claims : List RatioClaim) → length claims ≡ length graphs → All IsInRangeRatio claims → AreRated fraction_of (λ c. c.potentials) graphs claims
+pub claims_rated : (graphs : List Digraph) (claims : List RatioClaim) → length claims ≡ length graphs → All IsInRangeRatio claims → AreRated graphs claims
 claims_rated [] [] count all = tt
 claims_rated [] (c ∷ claims) count all = absurd (omega arith)
 claims_rated (g ∷ graphs) [] count all = absurd (omega arith)

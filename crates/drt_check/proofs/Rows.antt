@@ -7,7 +7,8 @@ use Rattle.drt_model.specs.Numbers.{most_horizon}
 use Rattle.drt_model.specs.Digraph.{Digraph, digraph_of}
 use Rattle.drt_model.specs.Utilisation.{IsScale, rate}
 use Rattle.drt_model.specs.declared.tasks.Task.{Task}
-use Rattle.drt_claims.specs.Claims.{graphs_of, fractions, HaveUtilisationBelowOne, HaveUtilisationOne, IsFine, IsHorizon}
+use Rattle.drt_claims.specs.Claims.{graphs_of, HaveUtilisationBelowOne, HaveUtilisationOne, IsFine, IsHorizon}
+use Rattle.drt_rates.specs.RatioClaims.{fractions}
 use Rattle.drt_claims.specs.Fronts.{IsOrdered}
 use Rattle.drt_claims.specs.Kinds.{HasFronts, HasRatios, fronts_of, ratios_of}
 use Rattle.drt_claims.specs.Rules.{HasClaimedUtilisation, Keeps, number_of}
@@ -15,7 +16,7 @@ use Rattle.drt_claims.specs.Statement.{Statement}
 use Rattle.drt_claims.specs.declared.evidence.Evidence.{Evidence}
 use Rattle.drt_claims.specs.declared.evidence.Evidence.TheVariants.{EdfYes}
 use Rattle.drt_graph.specs.declared.front.FrontEntry.{FrontEntry}
-use Rattle.drt_claims.specs.declared.evidence.RatioClaim.{RatioClaim}
+use Rattle.drt_rates.specs.declared.ratio_claim.RatioClaim.{RatioClaim}
 use Rattle.drt_claims.specs.declared.rule.Rule.{Rule}
 use Rattle.drt_claims.specs.declared.rule.Rule.TheVariants.{RatioPerTask, FineScale, ClaimedUtilisation, NearHorizon, OrderedFronts}
 use Rattle.drt_check.specs.Deciding.{HaveHorizon, HaveNearHorizon, IsNextRule}

@@ -11,8 +11,9 @@ use Rattle.drt_model.specs.Walk.{work, IsWalk, due_of}
 use Rattle.drt_graph.proofs.Bounds.{beyond, scaled_work}
 use Rattle.drt_graph.proofs.Paths.{work_none}
 use Rattle.drt_busy.specs.Choice.{AreDueBy, AreWalks, efforts}
-use Rattle.drt_claims.specs.declared.evidence.RatioClaim.{RatioClaim}
-use Rattle.drt_claims.specs.Claims.{HaveFittingPotentials, HaveUtilisationBelowOne, IsHorizon, fractions, graphs_of, potentials}
+use Rattle.drt_rates.specs.declared.ratio_claim.RatioClaim.{RatioClaim}
+use Rattle.drt_claims.specs.Claims.{HaveFittingPotentials, HaveUtilisationBelowOne, IsHorizon, graphs_of}
+use Rattle.drt_rates.specs.RatioClaims.{fractions, potentials}
 use Rattle.drt_graph.proofs.Scales.{scale_same}
 use Rattle.drt_check.proofs.SoundWalks.{efforts_cons, efforts_none}
 

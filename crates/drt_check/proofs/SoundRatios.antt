@@ -12,8 +12,9 @@ use Rattle.drt_graph.specs.RatioRules.{FitPotentials, IsClosedCycle, IsTight}
 use Rattle.drt_model.specs.Utilisation.{AreRatios, HasRatio, BoundsCycles}
 use Rattle.drt_model.specs.Walk.{gap, last_of, span, work}
 use Rattle.drt_graph.proofs.Bounds.{rises}
-use Rattle.drt_claims.specs.declared.evidence.RatioClaim.{RatioClaim}
-use Rattle.drt_claims.specs.Claims.{AreLowest, HaveClosedCycles, HaveFittingPotentials, HaveTightCycles, fractions, graphs_of}
+use Rattle.drt_rates.specs.declared.ratio_claim.RatioClaim.{RatioClaim}
+use Rattle.drt_claims.specs.Claims.{AreLowest, HaveClosedCycles, HaveFittingPotentials, HaveTightCycles, graphs_of}
+use Rattle.drt_rates.specs.RatioClaims.{fractions}
 use Rattle.drt_claims.specs.Rates.{IsAtOne}
 use Rattle.drt_model.specs.declared.tasks.Task.{Task}
 use Rattle.drt_claims.proofs.Accepting.{IsUtilisationOne}

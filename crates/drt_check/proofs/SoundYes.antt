@@ -14,7 +14,7 @@ use Rattle.drt_graph.proofs.Soundness.{are_graphs}
 use Rattle.drt_claims.specs.Claims.{graphs_of}
 use Rattle.drt_claims.specs.Fronts.{HasOpenings}
 use Rattle.drt_graph.specs.declared.front.FrontEntry.{FrontEntry}
-use Rattle.drt_claims.specs.declared.evidence.RatioClaim.{RatioClaim}
+use Rattle.drt_rates.specs.declared.ratio_claim.RatioClaim.{RatioClaim}
 use Rattle.drt_claims.proofs.Accepting.{IsEdfYes}
 use Rattle.drt_check_fronts.proofs.Eachs.{each_count}
 use Rattle.drt_check.proofs.SoundFronts.{all_within}

@@ -1,7 +1,7 @@
 -- The rules of one claimed ratio.
 use Rattle.drt_model.specs.Digraph.{Digraph}
 use Rattle.drt_graph.specs.RatioRules.{ArePotentialsCounted, FitPotentials, IsClosedCycle, IsTight}
-use Rattle.drt_claims.specs.declared.evidence.RatioClaim.{RatioClaim}
+use Rattle.drt_rates.specs.declared.ratio_claim.RatioClaim.{RatioClaim}
 use Rattle.drt_check.specs.declared.claimed.ClaimRule.{ClaimRule}
 use Rattle.drt_check.specs.declared.claimed.ClaimRule.TheVariants.{Counted, Fits, Closed, Tight}
 

@@ -6,7 +6,7 @@ use Rattle.drt_claims.specs.Claims.{graphs_of, IsFine, HaveUtilisationBelowOne, 
 use Rattle.drt_claims.specs.Kinds.{ratios_of}
 use Rattle.drt_claims.specs.Rules.{Applies, Keeps, number_of}
 use Rattle.drt_claims.specs.Statement.{Statement}
-use Rattle.drt_claims.specs.declared.evidence.RatioClaim.{RatioClaim}
+use Rattle.drt_rates.specs.declared.ratio_claim.RatioClaim.{RatioClaim}
 use Rattle.drt_claims.specs.declared.rule.Rule.{Rule}
 use Rattle.drt_claims.specs.declared.rule.Rule.TheVariants.{ConstrainedDeadlines, KindOfPolicy, LegalReleases, LeastMiss}
 use Rattle.drt_claims.specs.declared.rule.Rule.TheVariants.{RisingTails, BoundingTails, SearchPerVertex, SearchStates, PassingStates, DominatedChildren}

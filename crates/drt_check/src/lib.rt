@@ -10,7 +10,6 @@ mod judgement;
 mod known;
 mod laws;
 mod parts;
-mod rated;
 mod releases;
 mod rules;
 mod utilisation;

@@ -1,12 +1,12 @@
 //! What claimed ratios come to: whether their utilisation is the claimed one, and the horizon that they give.
 ghost use Rattle.std.specs.Prelude.{◌≡◌, ◌≤◌, ◌^◌, ◌↔◌, All, IfSome, IsTrue, Some, length};
 ghost use Rattle.drt_model.specs.Utilisation.{IsScale};
-ghost use Rattle.drt_claims.specs.Claims.{HaveUtilisationBelowOne, HaveUtilisationOne, IsFine, IsHorizon, fractions};
+ghost use Rattle.drt_claims.specs.Claims.{HaveUtilisationBelowOne, HaveUtilisationOne, IsFine, IsHorizon};
+ghost use Rattle.drt_rates.specs.RatioClaims.{fractions};
 ghost use Rattle.drt_claims.specs.Ranges.{IsInRangeRatio};
 ghost use Rattle.drt_check.specs.Deciding.{HaveHorizon, HaveNearHorizon};
 ghost use Rattle.drt_model.specs.Numbers.{most_scale};
 
-use crate::rated::Claimed;
 use drt_claims::RatioClaim;
 use drt_graph::Graphs;
 use drt_rates::{horizon, rate, scale};
@@ -18,7 +18,7 @@ pub fn is_fine(ratios: &[RatioClaim]) -> bool
     requires { All IsInRangeRatio ratios.now }
     ensures { IsTrue result ↔ IsFine ratios.now }
 {
-    match scale::<Claimed>(ratios) {
+    match scale(ratios) {
         Some(_) => true,
         None => false,
     }
@@ -31,7 +31,7 @@ fn fine_scale(ratios: &[RatioClaim]) -> u64
     ensures scale { IsScale (fractions ratios.now) result }
     ensures most { result ≤ most_scale }
 {
-    match scale::<Claimed>(ratios) {
+    match scale(ratios) {
         Some(common) => common,
         None => unreachable!(),
     }
@@ -45,7 +45,7 @@ pub fn is_below_one(ratios: &[RatioClaim]) -> bool
     ensures { IsTrue result ↔ HaveUtilisationBelowOne ratios.now }
 {
     let common = fine_scale(ratios);
-    rate::<Claimed>(ratios, common) < common as u128
+    rate(ratios, common) < common as u128
 }
 
 /// Whether the utilisation of the ratios is one.
@@ -56,7 +56,7 @@ pub fn is_one(ratios: &[RatioClaim]) -> bool
     ensures { IsTrue result ↔ HaveUtilisationOne ratios.now }
 {
     let common = fine_scale(ratios);
-    rate::<Claimed>(ratios, common) == common as u128
+    rate(ratios, common) == common as u128
 }
 
 /// Whether the horizon that the ratios and potentials give is at most 2^40 ticks. It is kept as the known one where it is.
@@ -102,5 +102,5 @@ fn horizon_of(graphs: &Graphs, ratios: &[RatioClaim]) -> u128
 {
     graphs.count();
     let common = fine_scale(ratios);
-    horizon::<Claimed>(graphs, ratios, common, rate::<Claimed>(ratios, common))
+    horizon(graphs, ratios, common, rate(ratios, common))
 }

@@ -1,30 +1,19 @@
--- Claimed ratios, read as fractions and potentials.
-use Rattle.std.specs.Prelude.{◌≡◌, ℕ, ◌≤◌, ◌<◌, ℤ, List, length, map, All}
+-- What is asked of claimed ratios.
+use Rattle.std.specs.Prelude.{◌≡◌, ℕ, ◌≤◌, ◌<◌, List, length, map, All}
 use Rattle.std.specs.Int.{IsGcd}
 use Rattle.drt_model.specs.declared.tasks.Task.{Task}
 use Rattle.drt_model.specs.Digraph.{Digraph, digraph_of}
-use Rattle.drt_model.specs.Utilisation.{Fraction, IsScale, rate}
+use Rattle.drt_model.specs.Utilisation.{IsScale, rate}
 use Rattle.drt_graph.specs.Horizon.{horizon}
 use Rattle.drt_graph.specs.RatioRules.{ArePotentialsCounted, FitPotentials, IsClosedCycle, IsTight}
-use Rattle.drt_claims.specs.declared.evidence.RatioClaim.{RatioClaim}
+use Rattle.drt_rates.specs.declared.ratio_claim.RatioClaim.{RatioClaim}
+use Rattle.drt_rates.specs.RatioClaims.{fractions, potentials}
 use Rattle.drt_model.specs.Each.{Each}
 use Rattle.drt_model.specs.Numbers.{most_scale}
 
 -- The graphs of the tasks, in order.
 abbrev pub graphs_of : List Task → List Digraph
 graphs_of tasks = map digraph_of tasks
-
--- A claimed ratio as a fraction.
-abbrev pub fraction_of : RatioClaim → Fraction
-fraction_of c = record { num = c.num; den = c.den }
-
--- The claimed ratios as fractions.
-abbrev pub fractions : List RatioClaim → List Fraction
-fractions claims = map fraction_of claims
-
--- The claimed potentials.
-abbrev pub potentials : List RatioClaim → List (List ℤ)
-potentials claims = map (λ c. c.potentials) claims
 
 -- There are as many claims as tasks.
 abbrev pub IsClaimPerTask : List Task → List RatioClaim → Type 0

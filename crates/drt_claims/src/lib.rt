@@ -13,6 +13,7 @@ mod limits;
 mod rule;
 
 pub use drt_graph::FrontEntry;
-pub use evidence::{Dossier, Evidence, Item, Pair, ProofClaim, RatioClaim, TreeClaim};
+pub use drt_rates::RatioClaim;
+pub use evidence::{Dossier, Evidence, Item, Pair, ProofClaim, TreeClaim};
 pub use limits::{MOST_NUMBER, MOST_PART, MOST_TICKS, MOST_WORK};
 pub use rule::Rule;

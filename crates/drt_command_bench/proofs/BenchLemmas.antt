@@ -12,7 +12,7 @@ use Rattle.drt_claims.specs.Claims.{graphs_of}
 use Rattle.drt_claims.specs.Fronts.{IsOrdered}
 use Rattle.drt_graph.specs.FrontEntry.{IsNextEntry}
 use Rattle.drt_claims.specs.Rates.{IsAtOne}
-use Rattle.drt_claims.specs.declared.evidence.RatioClaim.{RatioClaim}
+use Rattle.drt_rates.specs.declared.ratio_claim.RatioClaim.{RatioClaim}
 use Rattle.drt_claims.specs.declared.evidence.Evidence.{Evidence}
 use Rattle.drt_claims.specs.declared.evidence.Evidence.TheVariants.{EdfYes, EdfNo, UtilisationOne, FixedYes, FixedStates, FixedNo, Undecided}
 use Rattle.drt_claims.specs.declared.rule.Rule.TheVariants.{OrderedFronts}

@@ -2,7 +2,8 @@
 ghost use Rattle.std.specs.Prelude.{◌≡◌, ◌≤◌, ◌++◌, ◌⊎◌, IfErr, IfOk, OnOk, length, map};
 ghost use Rattle.drt_file.specs.trusted.Canonical.{written, written_line};
 ghost use Rattle.drt_model.specs.Digraph.{digraph_of};
-ghost use Rattle.drt_ratio.specs.SetRatios.{AreRatioProofs, AreSmall, fractions_of};
+ghost use Rattle.drt_ratio.specs.SetRatios.{AreRatioProofs, AreSmall};
+ghost use Rattle.drt_rates.specs.RatioClaims.{fractions};
 ghost use Rattle.drt_command.specs.Rules.{IsUnmadeCause};
 ghost use Rattle.drt_command_util.specs.Util.{IsTooFineSet, IsTooFineFile, IsUtilisationText, Utilises, fraction_line, fraction_lines, util_lines, util_rules};
 ghost use Rattle.drt_command_files.specs.TaskFiles.{IsAccepted};
@@ -16,7 +17,8 @@ use drt_model::{Memory, Row, Task, TaskSet};
 use drt_num::Ratio;
 use drt_outcome::fault::{Fault, SCALE_TOO_FINE};
 use drt_outcome::outcome::YES;
-use drt_ratio::{RatioProof, greatest, proofs_give_ratios, utilisation};
+use drt_rates::RatioClaim;
+use drt_ratio::{greatest, proofs_give_ratios, utilisation};
 use itoa::Buffer;
 use std::alloc::Global;
 
@@ -75,7 +77,7 @@ pub fn make_text(alloc: Global, set: &TaskSet, graphs: &Graphs) -> Result<Row<u8
 }
 
 // The ratio of each graph, with its evidence.
-fn find_ratios(alloc: Global, graphs: &Graphs) -> Result<Vec<RatioProof>, Memory>
+fn find_ratios(alloc: Global, graphs: &Graphs) -> Result<Vec<RatioClaim>, Memory>
     ensures are { IfOk result (λ proofs. AreRatioProofs graphs.now proofs.items) }
     ensures small { IfOk result (λ proofs. AreSmall proofs.items) }
     ensures few { IfOk result (λ proofs. length proofs.items ≤ 32) }
@@ -93,15 +95,15 @@ fn find_ratios(alloc: Global, graphs: &Graphs) -> Result<Vec<RatioProof>, Memory
 fn print_lines(
     alloc: Global,
     tasks: &[Task],
-    proofs: &[RatioProof],
+    proofs: &[RatioClaim],
     total: &Ratio,
 ) -> Result<Row<u8>, Memory>
     requires { length tasks.now ≡ length proofs.now }
-    ensures { IfOk result (λ text. text ≡ written (util_lines tasks.now (fractions_of proofs.now) (record { num = total.now.num; den = total.now.den }))) }
+    ensures { IfOk result (λ text. text ≡ written (util_lines tasks.now (fractions proofs.now) (record { num = total.now.num; den = total.now.den }))) }
 {
     let mut text = Vec::new(alloc);
     push_ratios(alloc, &mut text, tasks, proofs)?;
-    push_fraction(alloc, &mut text, b"total", total)?;
+    push_fraction(alloc, &mut text, b"total", total.num(), total.den())?;
     Ok(Row::from_vec(text))
 }
 
@@ -110,13 +112,14 @@ fn push_ratios(
     alloc: Global,
     text: &mut Vec<u8>,
     tasks: &[Task],
-    proofs: &[RatioProof],
+    proofs: &[RatioClaim],
 ) -> Result<(), Memory>
     requires { length tasks.now ≡ length proofs.now }
-    ensures { OnOk result (text.new.items ≡ text.old.items ++ written (fraction_lines tasks.now (fractions_of proofs.now))) }
+    ensures { OnOk result (text.new.items ≡ text.old.items ++ written (fraction_lines tasks.now (fractions proofs.now))) }
 {
     'tasks: for i in 0..tasks.len() {
-        push_fraction(alloc, text, tasks[i].name.as_slice(), &proofs[i].ratio)?;
+        let proof = &proofs[i];
+        push_fraction(alloc, text, tasks[i].name.as_slice(), proof.num as u128, proof.den as u128)?;
     }
     Ok(())
 }
@@ -126,14 +129,15 @@ fn push_fraction(
     alloc: Global,
     text: &mut Vec<u8>,
     name: &[u8],
-    ratio: &Ratio,
+    num: u128,
+    den: u128,
 ) -> Result<(), Memory>
-    ensures { OnOk result (text.new.items ≡ text.old.items ++ written_line (fraction_line name.now (record { num = ratio.now.num; den = ratio.now.den }))) }
+    ensures { OnOk result (text.new.items ≡ text.old.items ++ written_line (fraction_line name.now (record { num = num; den = den }))) }
 {
-    let mut num = Buffer::new();
-    let mut den = Buffer::new();
-    let mut fraction = Vec::from_slice(alloc, num.format(ratio.num()).as_bytes())?;
+    let mut num_digits = Buffer::new();
+    let mut den_digits = Buffer::new();
+    let mut fraction = Vec::from_slice(alloc, num_digits.format(num).as_bytes())?;
     fraction.extend_from_slice(b"/")?;
-    fraction.extend_from_slice(den.format(ratio.den()).as_bytes())?;
+    fraction.extend_from_slice(den_digits.format(den).as_bytes())?;
     push_line(text, &[name, fraction.as_slice()])
 }

@@ -8,7 +8,7 @@ use Rattle.drt_model.specs.declared.tasks.Task.{Task}
 use Rattle.drt_model.specs.Digraph.{Digraph, IsSoundGraph, IsConstrainedGraph, digraph_of}
 use Rattle.drt_model.specs.Walk.{gap, IsEdge, IsPath, deadline, last_of, span, work, IsCycle, cycle_span, IsWalk, due_of}
 use Rattle.drt_graph.proofs.Edges.{edge_of_sep, source_of, target_of}
-use Rattle.drt_ratio.specs.declared.ratio_proof.RatioProof.{RatioProof}
+use Rattle.drt_rates.specs.declared.ratio_claim.RatioClaim.{RatioClaim}
 use Rattle.drt_graph.proofs.Paths.{path_both, last_both, work_both, span_both, span_cons, work_none, span_none, cycle_path}
 use Rattle.drt_busy.specs.Choice.{AreDueBy, AreWalks, efforts}
 use Rattle.drt_horizon.specs.declared.cycle_turns.CycleTurn.{CycleTurn}
@@ -104,17 +104,17 @@ efforts_with task tasks walks zero = omega arith
 efforts_with task tasks walks (suc n) = omega (arith, efforts_with task tasks walks n)
 
 -- The turns with one more task.
-pub turns_cons : (g : Digraph) (graphs : List Digraph) (p : RatioProof) (proofs : List RatioProof) (t : ℕ)
+pub turns_cons : (g : Digraph) (graphs : List Digraph) (p : RatioClaim) (proofs : List RatioClaim) (t : ℕ)
     → turns_within (g ∷ graphs) (p ∷ proofs) t ≡ turns_of g t p.cycle ∷ turns_within graphs proofs t
 unfolding turns_within
 turns_cons g graphs p proofs t = refl
 
 -- All turns.
-pub turns_all : (walks whole : List (List ℕ)) (proofs : List RatioProof) (t : ℕ) → walks ++ turns_within [] proofs t ≡ whole → walks ≡ whole
+pub turns_all : (walks whole : List (List ℕ)) (proofs : List RatioClaim) (t : ℕ) → walks ++ turns_within [] proofs t ≡ whole → walks ≡ whole
 unfolding turns_within
 turns_all walks whole proofs t e = sym (append-nil walks) ∙ e
 
-more_turns : (task : Task) (tasks : List Task) (p : RatioProof) (proofs : List RatioProof) (t : ℕ) (walk : List ℕ) (walks : List (List ℕ))
+more_turns : (task : Task) (tasks : List Task) (p : RatioClaim) (proofs : List RatioClaim) (t : ℕ) (walk : List ℕ) (walks : List (List ℕ))
     → IsTurnWalk (digraph_of task) t p.cycle walk → AreTurns tasks proofs t walks → AreTurns (task ∷ tasks) (p ∷ proofs) t (walk ∷ walks)
 unfolding cycle_turns_of
 more_turns task tasks p proofs t walk walks w rest = record { are = are; due = due; all = all }
@@ -133,12 +133,12 @@ more_turns task tasks p proofs t walk walks w rest = record { are = are; due = d
         let f = turned_with (digraph_of task) t p.cycle (cycle_turns_of (graphs_of tasks) proofs) in
         omega (arith, e, f, w.works, rest.all)
 
-no_turns : (proofs : List RatioProof) (t : ℕ) → AreTurns [] proofs t []
+no_turns : (proofs : List RatioClaim) (t : ℕ) → AreTurns [] proofs t []
 unfolding cycle_turns_of turned efforts
 no_turns proofs t = record { are = λ k l. absurd (omega arith); due = λ k l. absurd (omega arith); all = omega arith }
 
 -- The whole turns are walks of the tasks, are due by t, and have the work of whole turns.
-pub are_turns : (tasks : List Task) (proofs : List RatioProof) (t : ℕ) → All IsSoundGraph (graphs_of tasks) → All IsConstrainedGraph (graphs_of tasks)
+pub are_turns : (tasks : List Task) (proofs : List RatioClaim) (t : ℕ) → All IsSoundGraph (graphs_of tasks) → All IsConstrainedGraph (graphs_of tasks)
     → AreGiven (graphs_of tasks) proofs → AreTurns tasks proofs t (turns_within (graphs_of tasks) proofs t)
 unfolding turns_within
 are_turns [] proofs t sound constrained given = no_turns proofs t
@@ -146,6 +146,6 @@ are_turns (task ∷ tasks) [] t sound constrained given = absurd given
 are_turns (task ∷ tasks) (p ∷ proofs) t sound constrained given =
     let g = digraph_of task in
     let w = turn_walk g (All-head IsSoundGraph g (graphs_of tasks) sound) (All-head IsConstrainedGraph g (graphs_of tasks) constrained) t p.cycle
-    (is_cycle g p.ratio.num p.ratio.den p.cycle given.0.greatest.has) in
+    (is_cycle g p.num p.den p.cycle given.0.greatest.has) in
     more_turns task tasks p proofs t (turns_of g t p.cycle) (turns_within (graphs_of tasks) proofs t) w
     (are_turns tasks proofs t (All-tail IsSoundGraph g (graphs_of tasks) sound) (All-tail IsConstrainedGraph g (graphs_of tasks) constrained) given.1)

@@ -5,7 +5,7 @@ use Rattle.std.proofs.lemmas.Bool.{cases_lt, eqb-false}
 use Rattle.drt_effort.specs.Efforts.{most_budget}
 use Rattle.drt_model.specs.Digraph.{Digraph}
 use Rattle.drt_graph.specs.Graphs.{AreGraphs}
-use Rattle.drt_ratio.specs.declared.ratio_proof.RatioProof.{RatioProof}
+use Rattle.drt_rates.specs.declared.ratio_claim.RatioClaim.{RatioClaim}
 use Rattle.drt_horizon.specs.declared.cycle_turns.CycleTurn.{CycleTurn}
 use Rattle.drt_horizon.specs.declared.answers.Over.TheVariants.{Found}
 use Rattle.drt_horizon.specs.Given.{AreGiven}
@@ -50,6 +50,6 @@ near_step (c ∷ cycle_turns) are t budget over few most =
     omega arith
 
 -- What a search for an overload finds is in range.
-pub overload_near : (graphs : List Digraph) (proofs : List RatioProof) → AreGraphs graphs → AreGiven graphs proofs
+pub overload_near : (graphs : List Digraph) (proofs : List RatioClaim) → AreGraphs graphs → AreGiven graphs proofs
     → (budget t : ℕ) → budget ≤ most_budget → IsOverFound (cycle_turns_of graphs proofs) budget (Found t) → t ≤ 1000000000000000000
 overload_near graphs proofs are given budget t most over = near_step (cycle_turns_of graphs proofs) (are_cycle_turns graphs proofs are.sound given) t budget over.1 over.3 most

@@ -15,7 +15,7 @@ use Rattle.drt_busy.specs.Decide.{DeadlinesDecide}
 use Rattle.drt_graph.specs.Graphs.{AreGraphs}
 use Rattle.drt_graph.proofs.Edges.{sep_of_edge, gap_of}
 use Rattle.drt_graph.specs.declared.front.FrontEntry.{FrontEntry}
-use Rattle.drt_ratio.specs.declared.ratio_proof.RatioProof.{RatioProof}
+use Rattle.drt_rates.specs.declared.ratio_claim.RatioClaim.{RatioClaim}
 use Rattle.drt_ratio.proofs.Optima.{path_sums}
 use Rattle.drt_graph.proofs.Paths.{work_cons}
 use Rattle.drt_graph.proofs.WalkLabels.{more, parts_of, label_one, label_vertex}
@@ -31,7 +31,6 @@ use Rattle.drt_claims.specs.Ranges.{IsInRangeEntry}
 use Rattle.drt_claims.proofs.Accepting.{AreFrontClaims, yes_accepted}
 use Rattle.drt_edf.specs.Answers.{IsExactEdfYes}
 use Rattle.drt_edf_fronts.specs.LabelFronts.{IsLabelFront, AreLabelFronts}
-use Rattle.drt_edf.specs.RatioClaims.{claims_of}
 use Rattle.drt_edf.specs.Walks.{IsWalkEntry, IsExactFront}
 use Rattle.drt_edf_fronts.proofs.Prefixes.{walk_more}
 use Rattle.drt_edf.proofs.Covered.{all_within}
@@ -47,7 +46,7 @@ HasRoom graphs fronts bound = (s : ℕ) → s ≤ bound → demands graphs front
 
 -- The set is schedulable.
 pub schedulable : HorizonHolds → DeadlinesDecide → (version : ℕ) (tasks : List Task) → IsTaskSet version tasks → AreConstrained tasks → AreGraphs (graphs_of tasks)
-    → (proofs : List RatioProof) → AreGiven (graphs_of tasks) proofs → (bound : ℕ) → IsHorizonPlan (graphs_of tasks) proofs (Ok (Under bound)) → (fronts : List (List FrontEntry))
+    → (proofs : List RatioClaim) → AreGiven (graphs_of tasks) proofs → (bound : ℕ) → IsHorizonPlan (graphs_of tasks) proofs (Ok (Under bound)) → (fronts : List (List FrontEntry))
     → AreLabelFronts bound (graphs_of tasks) fronts → HasRoom (graphs_of tasks) fronts bound → Schedulable tasks Edf
 schedulable holds decide version tasks is constrained graphs proofs given bound plan fronts are room = (decide version tasks is constrained).1 fits
   where
@@ -127,13 +126,13 @@ fronts_kept tasks bound fronts graphs near are room = record {
 
 -- A yes.
 pub is_yes : HorizonHolds → DeadlinesDecide → (version : ℕ) (tasks : List Task) → IsTaskSet version tasks → AreConstrained tasks → AreGraphs (graphs_of tasks)
-    → (proofs : List RatioProof) → AreGiven (graphs_of tasks) proofs → (bound : ℕ) → IsHorizonPlan (graphs_of tasks) proofs (Ok (Under bound)) → (fronts : List (List FrontEntry))
-    → AreLabelFronts bound (graphs_of tasks) fronts → HasRoom (graphs_of tasks) fronts bound → IsExactEdfYes tasks (claims_of proofs) fronts
+    → (proofs : List RatioClaim) → AreGiven (graphs_of tasks) proofs → (bound : ℕ) → IsHorizonPlan (graphs_of tasks) proofs (Ok (Under bound)) → (fronts : List (List FrontEntry))
+    → AreLabelFronts bound (graphs_of tasks) fronts → HasRoom (graphs_of tasks) fronts bound → IsExactEdfYes tasks proofs fronts
 is_yes holds decide version tasks is constrained graphs proofs given bound plan fronts are room =
     let below = claims_below proofs (graphs_of tasks) bound plan in
     record {
       schedulable = schedulable holds decide version tasks is constrained graphs proofs given bound plan fronts are room;
-      accepted = λ version. yes_accepted (record { version = version; tasks = tasks }) (claims_of proofs) fronts constrained (record {
+      accepted = λ version. yes_accepted (record { version = version; tasks = tasks }) proofs fronts constrained (record {
         claims = claims_kept tasks proofs given plan.0 plan.1 plan.2.0;
         below = below.0;
         bound = bound;

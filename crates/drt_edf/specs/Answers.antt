@@ -19,7 +19,7 @@ use Rattle.drt_claims.specs.Rules.{Accepts}
 use Rattle.drt_claims.specs.declared.evidence.Evidence.{Evidence}
 use Rattle.drt_claims.specs.declared.evidence.Evidence.TheVariants.{EdfYes, EdfNo, UtilisationOne, FixedYes, FixedStates, FixedNo, Undecided}
 use Rattle.drt_graph.specs.declared.front.FrontEntry.{FrontEntry}
-use Rattle.drt_claims.specs.declared.evidence.RatioClaim.{RatioClaim}
+use Rattle.drt_rates.specs.declared.ratio_claim.RatioClaim.{RatioClaim}
 use Rattle.drt_claims.specs.Rates.{IsAtOne}
 use Rattle.drt_edf.specs.Plans.{IsAboveOne, HasHorizon, IsTooFar, AreTooFine}
 use Rattle.drt_edf.specs.Walks.{IsExactFront}

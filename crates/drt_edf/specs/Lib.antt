@@ -2,7 +2,6 @@ pub mod Plans
 pub mod Walks
 pub mod Spent
 pub mod Answers
-pub mod RatioClaims
 pub mod Searches
 pub mod Turns
 pub mod Exclusions

@@ -1,12 +1,12 @@
 -- Where a budget is spent, and how much is enough.
-use Rattle.std.specs.Prelude.{◌≡◌, ℕ, ◌≤◌, ◌<◌, ◌^◌, false, List, length, All, Some, slice_get}
+use Rattle.std.specs.Prelude.{◌≡◌, ℕ, ◌≤◌, ◌<◌, false, List, length, All, Some, slice_get}
 use Rattle.drt_model.specs.Numbers.{most_horizon}
 use Rattle.drt_model.specs.declared.tasks.Task.{Task}
 use Rattle.drt_model.specs.Digraph.{Digraph}
 use Rattle.drt_model.specs.Utilisation.{IsScale}
 use Rattle.drt_demand.specs.Demand.{demand_algebra}
-use Rattle.drt_ratio.specs.declared.ratio_proof.RatioProof.{RatioProof}
-use Rattle.drt_ratio.specs.SetRatios.{fractions_of}
+use Rattle.drt_rates.specs.declared.ratio_claim.RatioClaim.{RatioClaim}
+use Rattle.drt_rates.specs.RatioClaims.{fractions}
 use Rattle.drt_table.specs.Machine.{IsRun, replay, is_finished}
 use Rattle.drt_table.specs.declared.step.Entry.{Entry}
 use Rattle.drt_horizon.specs.Given.{AreGiven}
@@ -37,15 +37,15 @@ pub record IsSpentEdfTable (tasks : List Task) (budget task : ℕ) (log : List E
 -- below the time by which there is one.
 pub record IsSpentOverload (tasks : List Task) (budget last : ℕ) : Type 0 where
   pub above : IsAboveOne tasks
-  pub proofs : List RatioProof
+  pub proofs : List RatioClaim
   pub are : AreGiven (graphs_of tasks) proofs
   pub spent : IsOverFound (cycle_turns_of (graphs_of tasks) proofs) budget (Spent last)
   pub scale : ℕ
-  pub is_scale : IsScale (fractions_of proofs) scale
+  pub is_scale : IsScale (fractions proofs) scale
   pub short : budget < latest scale (graphs_of tasks) proofs
 
 -- The budget is enough for each search: of each task's walks up to the horizon where the utilisation is below one, and for an
 -- overload where it is above.
 pub record IsEnoughForEdf (tasks : List Task) (budget : ℕ) : Type 0 where
   pub tables : (bound : ℕ) → HasHorizon tasks bound → All (λ g. table_need g bound ≤ budget) (graphs_of tasks)
-  pub overload : IsAboveOne tasks → (proofs : List RatioProof) → AreGiven (graphs_of tasks) proofs → (scale : ℕ) → IsScale (fractions_of proofs) scale → latest scale (graphs_of tasks) proofs ≤ budget
+  pub overload : IsAboveOne tasks → (proofs : List RatioClaim) → AreGiven (graphs_of tasks) proofs → (scale : ℕ) → IsScale (fractions proofs) scale → latest scale (graphs_of tasks) proofs ≤ budget

@@ -4,7 +4,7 @@ use Rattle.std.specs.List.{repeat}
 use Rattle.drt_model.specs.declared.tasks.Task.{Task}
 use Rattle.drt_model.specs.Digraph.{Digraph}
 use Rattle.drt_model.specs.Walk.{cycle_span}
-use Rattle.drt_ratio.specs.declared.ratio_proof.RatioProof.{RatioProof}
+use Rattle.drt_rates.specs.declared.ratio_claim.RatioClaim.{RatioClaim}
 use Rattle.drt_busy.specs.Choice.{AreDueBy, AreWalks, efforts}
 use Rattle.drt_horizon.specs.CycleTurns.{cycle_turns_of, turned}
 use Rattle.drt_claims.specs.Claims.{graphs_of}
@@ -15,13 +15,13 @@ unfoldable pub turns_of : Digraph → ℕ → List ℕ → List ℕ
 turns_of g t cycle = repeat (t / cycle_span g cycle) cycle
 
 -- Such a walk for each task, in order.
-unfoldable pub turns_within : List Digraph → List RatioProof → ℕ → List (List ℕ)
+unfoldable pub turns_within : List Digraph → List RatioClaim → ℕ → List (List ℕ)
 turns_within [] proofs t = []
 turns_within (g ∷ graphs) [] t = []
 turns_within (g ∷ graphs) (p ∷ proofs) t = turns_of g t p.cycle ∷ turns_within graphs proofs t
 
 -- The lists are walks of the tasks, one for each, which are due by t and have together the work of all whole turns within t.
-pub record AreTurns (tasks : List Task) (proofs : List RatioProof) (t : ℕ) (walks : List (List ℕ)) : Type 0 where
+pub record AreTurns (tasks : List Task) (proofs : List RatioClaim) (t : ℕ) (walks : List (List ℕ)) : Type 0 where
   pub are : AreWalks tasks (walk_at walks)
   pub due : AreDueBy tasks (walk_at walks) t
   pub all : turned (cycle_turns_of (graphs_of tasks) proofs) t ≤ efforts tasks (walk_at walks) (length tasks)

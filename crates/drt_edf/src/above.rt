@@ -11,7 +11,7 @@ use drt_accepted::Accepted;
 use drt_effort::Effort;
 use drt_horizon::{Over, overload, search_ends};
 use drt_model::Memory;
-use drt_ratio::RatioProof;
+use drt_rates::RatioClaim;
 use drt_trails::EdfTrail;
 use std::alloc::Global;
 
@@ -20,7 +20,7 @@ use std::alloc::Global;
 pub(crate) fn above_one(
     alloc: Global,
     set: &Accepted<'_>,
-    proofs: &[RatioProof],
+    proofs: &[RatioClaim],
     effort: Effort,
 ) -> Result<EdfAnswer, Memory>
     requires given { AreGiven (graphs_of set.now.tasks) proofs.now }

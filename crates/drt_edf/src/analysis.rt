@@ -5,7 +5,6 @@ ghost use Rattle.drt_edf.specs.Answers.{IsEdfAnswer};
 use crate::above::above_one;
 use crate::answer::EdfAnswer;
 use crate::below::below_one;
-use crate::claims::claims_of;
 use drt_accepted::Accepted;
 use drt_claims::Evidence;
 use drt_crew::Crew;
@@ -36,9 +35,7 @@ pub fn analyse_edf<G: Gate, R: Threads + Wait + Sync>(
     graphs.keep_limits();
     match plan(graphs, proofs.as_slice()) {
         Ok(Horizon::Under { bound }) => below_one(crew, set, proofs, bound),
-        Ok(Horizon::One) => Ok(EdfAnswer::Done(Evidence::UtilisationOne {
-            ratios: claims_of(crew.alloc, proofs)?,
-        })),
+        Ok(Horizon::One) => Ok(EdfAnswer::Done(Evidence::UtilisationOne { ratios: proofs })),
         Ok(Horizon::Over) => above_one(crew.alloc, set, proofs.as_slice(), crew.effort),
         Err(beyond) => Ok(EdfAnswer::Beyond(beyond)),
     }

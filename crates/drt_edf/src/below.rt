@@ -8,7 +8,6 @@ ghost use Rattle.drt_edf.specs.Answers.{IsEdfAnswer, IsEdfVerdict};
 ghost use Rattle.drt_edf_fronts.specs.LabelFronts.{AreDemandWalks, AreLabelFronts};
 
 use crate::answer::EdfAnswer;
-use crate::claims::claims_of;
 use crate::refusal::refusal;
 use crate::searching::{Searched, searches};
 use drt_accepted::Accepted;
@@ -20,7 +19,7 @@ use drt_graph::{FrontEntry, Graphs};
 use drt_horizon::{Horizon, horizon_holds, scan};
 use drt_model::{Memory, Row};
 use drt_pool::Gate;
-use drt_ratio::RatioProof;
+use drt_rates::RatioClaim;
 use drt_trails::EdfTrail;
 use std::alloc::Global;
 use std::sync::Wait;
@@ -49,7 +48,7 @@ fn demand_walks(
 fn scanned(
     alloc: Global,
     set: &Accepted<'_>,
-    proofs: Row<RatioProof>,
+    proofs: Row<RatioClaim>,
     bound: u64,
     fronts: Row<Row<FrontEntry>>,
 ) -> Result<Evidence, Memory>
@@ -67,7 +66,7 @@ fn scanned(
     graphs.keep_limits();
     match scan(alloc, graphs, fronts.as_slice(), bound)? {
         None => Ok(Evidence::EdfYes {
-            ratios: claims_of(alloc, proofs)?,
+            ratios: proofs,
             fronts,
         }),
         Some(t) => {
@@ -82,7 +81,7 @@ fn scanned(
 pub(crate) fn below_one<G: Gate, R: Threads + Wait + Sync>(
     crew: &Crew<'_, G, R>,
     set: &Accepted<'_>,
-    proofs: Row<RatioProof>,
+    proofs: Row<RatioClaim>,
     bound: u64,
 ) -> Result<EdfAnswer, Memory>
     requires given { AreGiven (graphs_of set.now.tasks) proofs }

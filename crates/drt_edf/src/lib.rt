@@ -12,7 +12,6 @@ mod above;
 mod analysis;
 mod answer;
 mod below;
-mod claims;
 mod laws;
 mod reckoning;
 mod refusal;

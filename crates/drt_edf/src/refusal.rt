@@ -14,7 +14,7 @@ use drt_accepted::Accepted;
 use drt_busy::{demand_misses, no_assignment_meets};
 use drt_claims::Evidence;
 use drt_model::{Memory, Policy, Row};
-use drt_ratio::RatioProof;
+use drt_rates::RatioClaim;
 use drt_releases::{all_releases, releases_are_in_range};
 use drt_replay::Board;
 use std::alloc::Global;
@@ -62,7 +62,7 @@ pub(crate) fn refusal(
 pub(crate) fn overload_refusal(
     alloc: Global,
     set: &Accepted<'_>,
-    proofs: &[RatioProof],
+    proofs: &[RatioClaim],
     t: u64,
 ) -> Result<Evidence, Memory>
     requires given { AreGiven (graphs_of set.now.tasks) proofs.now }

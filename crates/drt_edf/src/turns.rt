@@ -9,14 +9,14 @@ ghost use Rattle.drt_edf.specs.Turns.{AreTurns, turns_of, turns_within};
 
 use drt_graph::{Graph, Graphs, cycle_sums};
 use drt_model::{Memory, Row};
-use drt_ratio::RatioProof;
+use drt_rates::RatioClaim;
 use std::alloc::Global;
 
 /// For each task the walk of the whole turns of its cycle within `t`.
 pub(crate) fn turns(
     alloc: Global,
     graphs: &Graphs,
-    proofs: &[RatioProof],
+    proofs: &[RatioClaim],
     t: u64,
 ) -> Result<Row<Row<u32>>, Memory>
     requires { AreGiven graphs.now proofs.now }

@@ -5,8 +5,8 @@ use crate::horizon_tests::graphs;
 use drt_fixtures::Shape;
 use drt_graph::Graph;
 use drt_model::{Memory, Row};
-use drt_num::Ratio;
-use drt_ratio::{RatioProof, check_ratio, greatest, utilisation};
+use drt_rates::RatioClaim;
+use drt_ratio::{check_ratio, greatest, utilisation};
 use std::alloc::Global;
 use std::test::Fail;
 
@@ -14,8 +14,8 @@ use std::test::Fail;
 fn has_ratio(
     alloc: Global,
     shape: Shape<'_>,
-    num: u128,
-    den: u128,
+    num: u64,
+    den: u64,
     potentials: &[i64],
 ) -> Result<bool, Fail> {
     let graphs = graphs(alloc, &[shape])?;
@@ -25,8 +25,8 @@ fn has_ratio(
     let graph = graphs.graph(0);
     let proof = greatest(alloc, graph)?;
     Ok(
-        proof.ratio.num() == num
-            && proof.ratio.den() == den
+        proof.num == num
+            && proof.den == den
             && proof.cycle.as_slice().is_empty() == (num == 0)
             && proof.potentials.as_slice() == potentials
             && check_ratio(graph, &proof),
@@ -48,7 +48,7 @@ fn ratios_and_potentials_by_hand(rt: HostRuntime) -> Result<(), Fail> {
     // The best cycle is that of the first two vertices. The shortest is the loop, the heaviest goes through the third.
     let neither = [(0, 0, 10), (0, 1, 4), (1, 0, 4), (0, 2, 20), (2, 0, 20)];
     let all = [(0, 1, 5), (1, 2, 5), (2, 0, 2)];
-    let cases: [(Shape<'_>, u128, u128, &[i64]); 9] = [
+    let cases: [(Shape<'_>, u64, u64, &[i64]); 9] = [
         ((&[(12, 1), (8, 1), (4, 1)], &engine), 4, 15, &[120, 60, 0]),
         ((&[(10, 1)], &[(0, 0, 50)]), 1, 5, &[0]),
         ((&[(20, 1)], &[(0, 0, 200)]), 1, 10, &[0]),
@@ -72,16 +72,17 @@ fn ratios_and_potentials_by_hand(rt: HostRuntime) -> Result<(), Fail> {
 fn claim(
     alloc: Global,
     graph: &Graph,
-    num: u128,
-    den: u128,
+    num: u64,
+    den: u64,
     cycle: &[u32],
     potentials: &[i64],
 ) -> Result<bool, Memory> {
     if num > 9 || den == 0 || den > 9 {
         return Ok(false);
     }
-    let proof = RatioProof {
-        ratio: Ratio::new(num, den),
+    let proof = RatioClaim {
+        num,
+        den,
         cycle: Row::from_vec(Vec::from_slice(alloc, cycle)?),
         potentials: Row::from_vec(Vec::from_slice(alloc, potentials)?),
     };
@@ -91,8 +92,8 @@ fn claim(
 // Whether such a claim is kept of one vertex of 2 ticks with a loop of 5.
 fn is_kept(
     alloc: Global,
-    num: u128,
-    den: u128,
+    num: u64,
+    den: u64,
     cycle: &[u32],
     potentials: &[i64],
 ) -> Result<bool, Fail> {
@@ -105,7 +106,7 @@ fn is_kept(
 
 #[test]
 fn a_claim_is_kept_to_each_rule(rt: HostRuntime) -> Result<(), Fail> {
-    let cases: [(u128, u128, &[u32], &[i64], bool); 10] = [
+    let cases: [(u64, u64, &[u32], &[i64], bool); 10] = [
         (2, 5, &[0], &[0], true),
         (2, 5, &[0], &[-7], true),
         (2, 5, &[0, 0], &[0], true),
@@ -124,22 +125,24 @@ fn a_claim_is_kept_to_each_rule(rt: HostRuntime) -> Result<(), Fail> {
 }
 
 // A claim of that ratio.
-fn ratio(alloc: Global, num: u128, den: u128) -> RatioProof
+fn ratio(alloc: Global, num: u64, den: u64) -> RatioClaim
     requires some { 1 ≤ den }
     requires num_small { num ≤ 1000000 }
     requires den_small { den ≤ 1000000 }
-    ensures num { result.ratio.num ≤ 1000000 }
-    ensures den { result.ratio.den ≤ 1000000 }
+    ensures num { result.num ≤ 1000000 }
+    ensures some { 1 ≤ result.den }
+    ensures den { result.den ≤ 1000000 }
 {
-    RatioProof {
-        ratio: Ratio::new(num, den),
+    RatioClaim {
+        num,
+        den,
         cycle: Row::from_vec(Vec::new(alloc)),
         potentials: Row::from_vec(Vec::new(alloc)),
     }
 }
 
 // The utilisation of tasks with these ratios, where it is in reach.
-fn sum_of(alloc: Global, ratios: &[(u128, u128)]) -> Result<Option<(u128, u128)>, Fail> {
+fn sum_of(alloc: Global, ratios: &[(u64, u64)]) -> Result<Option<(u128, u128)>, Fail> {
     let mut proofs = Vec::new(alloc);
     'ratios: for i in 0..ratios.len() {
         let (num, den) = ratios[i];
@@ -159,7 +162,7 @@ fn sum_of(alloc: Global, ratios: &[(u128, u128)]) -> Result<Option<(u128, u128)>
 
 #[test]
 fn utilisations_by_hand(rt: HostRuntime) -> Result<(), Fail> {
-    let cases: [(&[(u128, u128)], Option<(u128, u128)>); 5] = [
+    let cases: [(&[(u64, u64)], Option<(u128, u128)>); 5] = [
         (&[(2, 5), (4, 7)], Some((34, 35))),
         // Over 30 the sum is 8 + 6 + 3.
         (&[(4, 15), (1, 5), (1, 10)], Some((17, 30))),

@@ -22,7 +22,7 @@ use Rattle.drt_claims.specs.declared.evidence.Evidence.{Evidence}
 use Rattle.drt_claims.specs.declared.evidence.Evidence.TheVariants.{EdfYes, EdfNo, UtilisationOne, FixedYes, FixedStates, FixedNo, Undecided}
 use Rattle.drt_graph.specs.declared.front.FrontEntry.{FrontEntry}
 use Rattle.drt_claims.specs.declared.evidence.ProofClaim.{ProofClaim}
-use Rattle.drt_claims.specs.declared.evidence.RatioClaim.{RatioClaim}
+use Rattle.drt_rates.specs.declared.ratio_claim.RatioClaim.{RatioClaim}
 use Rattle.drt_claims.specs.declared.evidence.TreeClaim.{TreeClaim}
 use Rattle.drt_evidence.specs.declared.reading.line_forms.KindOfEvidence.{KindOfEvidence}
 use Rattle.drt_evidence.specs.declared.reading.line_forms.KindOfEvidence.TheVariants as kinds

@@ -3,7 +3,7 @@ use Rattle.std.proofs.Common.{◌≡◌, ℕ, zero, suc, ◌+◌, ◌<◌, List,
 use Rattle.std.proofs.lemmas.List.{append_assoc, append-nil, take_more_set}
 use Rattle.drt_model.specs.Digraph.{Digraph}
 use Rattle.drt_model.specs.Walk.{work, cycle_span}
-use Rattle.drt_ratio.specs.declared.ratio_proof.RatioProof.{RatioProof}
+use Rattle.drt_rates.specs.declared.ratio_claim.RatioClaim.{RatioClaim}
 use Rattle.drt_horizon.specs.declared.cycle_turns.CycleTurn.{CycleTurn}
 use Rattle.drt_horizon.specs.CycleTurns.{with_cycle_turn, cycle_turns_of}
 
@@ -13,12 +13,12 @@ positive zero differ = absurd (differ refl)
 positive (suc n) differ = omega arith
 
 -- The turns with one more task.
-pub cycle_turns_cons : (g : Digraph) (gs : List Digraph) (p : RatioProof) (ps : List RatioProof) → cycle_turns_of (g ∷ gs) (p ∷ ps) ≡ with_cycle_turn g p.cycle (cycle_turns_of gs ps)
+pub cycle_turns_cons : (g : Digraph) (gs : List Digraph) (p : RatioClaim) (ps : List RatioClaim) → cycle_turns_of (g ∷ gs) (p ∷ ps) ≡ with_cycle_turn g p.cycle (cycle_turns_of gs ps)
 unfolding cycle_turns_of
 cycle_turns_cons g gs p ps = refl
 
 -- No tasks have no turns.
-pub cycle_turns_none : (ps : List RatioProof) → cycle_turns_of [] ps ≡ []
+pub cycle_turns_none : (ps : List RatioClaim) → cycle_turns_of [] ps ≡ []
 unfolding cycle_turns_of
 cycle_turns_none ps = refl
 
@@ -43,5 +43,5 @@ cycle_turn_skipped cycle_turns whole rest n g [] none e = e
 cycle_turn_skipped cycle_turns whole rest n g (v ∷ vs) none e = absurd (omega arith)
 
 -- All turns.
-pub cycle_turns_all : (cycle_turns whole : List CycleTurn) (n : ℕ) (ps : List RatioProof) → take n cycle_turns ++ cycle_turns_of [] ps ≡ whole → take n cycle_turns ≡ whole
+pub cycle_turns_all : (cycle_turns whole : List CycleTurn) (n : ℕ) (ps : List RatioClaim) → take n cycle_turns ++ cycle_turns_of [] ps ≡ whole → take n cycle_turns ≡ whole
 cycle_turns_all cycle_turns whole n ps e = sym (append-nil (take n cycle_turns)) ∙ (ap (λ xs. take n cycle_turns ++ xs) (sym (cycle_turns_none ps)) ∙ e)

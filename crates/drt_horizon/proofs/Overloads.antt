@@ -7,8 +7,8 @@ use Rattle.drt_model.specs.Walk.{gap, IsPath, last_of, work, IsCycle, cycle_span
 use Rattle.drt_model.specs.Utilisation.{HasRatio, AreDistinct, EachDivides, IsScale, rate}
 use Rattle.drt_graph.specs.Graphs.{AreGraphs}
 use Rattle.drt_graph.proofs.Edges.{target_of}
-use Rattle.drt_ratio.specs.declared.ratio_proof.RatioProof.{RatioProof}
-use Rattle.drt_ratio.specs.SetRatios.{fractions_of}
+use Rattle.drt_rates.specs.declared.ratio_claim.RatioClaim.{RatioClaim}
+use Rattle.drt_rates.specs.RatioClaims.{fractions}
 use Rattle.drt_ratio.proofs.Loops.{few_distinct}
 use Rattle.drt_ratio.proofs.Optima.{cycle_sums}
 use Rattle.drt_graph.proofs.Scales.{scale_same}
@@ -46,12 +46,12 @@ cycle_turns_with g a b (v ∷ vs) cycle_turns sound has distinct are =
     (sums.span_some, omega (arith, sums.span_most, few, sound.few), omega (arith, sums.work_most, few, sound.few), are)
 
 -- The turns' numbers are in range.
-pub are_cycle_turns : (graphs : List Digraph) (proofs : List RatioProof) → All IsSoundGraph graphs → AreGiven graphs proofs → AreCycleTurns (cycle_turns_of graphs proofs)
+pub are_cycle_turns : (graphs : List Digraph) (proofs : List RatioClaim) → All IsSoundGraph graphs → AreGiven graphs proofs → AreCycleTurns (cycle_turns_of graphs proofs)
 unfolding cycle_turns_of
 are_cycle_turns [] proofs sound given = tt
 are_cycle_turns (g ∷ graphs) [] sound given = absurd given
 are_cycle_turns (g ∷ graphs) (p ∷ proofs) sound given =
-    cycle_turns_with g p.ratio.num p.ratio.den p.cycle (cycle_turns_of graphs proofs) (head_of IsSoundGraph g graphs sound) given.0.greatest.has given.0.greatest.distinct
+    cycle_turns_with g p.num p.den p.cycle (cycle_turns_of graphs proofs) (head_of IsSoundGraph g graphs sound) given.0.greatest.has given.0.greatest.distinct
     (are_cycle_turns graphs proofs (tail_of IsSoundGraph g graphs sound) given.1)
 
 -- In plain numbers: the work of a cycle at the scale is its share of the rate for its span.
@@ -69,19 +69,19 @@ more g a b scale t r (v ∷ vs) cycle_turns sound has divides l =
     let o = one scale (work g (v ∷ vs)) (cycle_span g (v ∷ vs)) (a * (scale / b)) t (t / cycle_span g (v ∷ vs)) e (turn_end t (cycle_span g (v ∷ vs)) sums.span_some) in
     omega (arith, o, l)
 
-all : (graphs : List Digraph) (proofs : List RatioProof) (scale t : ℕ) → All IsSoundGraph graphs → AreGiven graphs proofs → EachDivides (fractions_of proofs) scale
+all : (graphs : List Digraph) (proofs : List RatioClaim) (scale t : ℕ) → All IsSoundGraph graphs → AreGiven graphs proofs → EachDivides (fractions proofs) scale
     → rate_at scale proofs * t ≤ scale * turned (cycle_turns_of graphs proofs) t + scale * cycle_turn_works (cycle_turns_of graphs proofs)
 unfolding rate cycle_turns_of
 all [] [] scale t sound given divides = omega arith
 all [] (p ∷ proofs) scale t sound given divides = absurd given
 all (g ∷ graphs) [] scale t sound given divides = absurd given
 all (g ∷ graphs) (p ∷ proofs) scale t sound given divides =
-    more g p.ratio.num p.ratio.den scale t (rate_at scale proofs) p.cycle (cycle_turns_of graphs proofs) (head_of IsSoundGraph g graphs sound) given.0.greatest.has
+    more g p.num p.den scale t (rate_at scale proofs) p.cycle (cycle_turns_of graphs proofs) (head_of IsSoundGraph g graphs sound) given.0.greatest.has
     divides.0 (all graphs proofs scale t (tail_of IsSoundGraph g graphs sound) given.1 divides.1)
 
 -- Where the rate is above the scale, whole turns are too much at the latest time.
-cycle_turns_overload : (graphs : List Digraph) (proofs : List RatioProof) (scale : ℕ) → All IsSoundGraph graphs → AreGiven graphs proofs
-    → EachDivides (fractions_of proofs) scale → scale < rate_at scale proofs → latest scale graphs proofs < turned (cycle_turns_of graphs proofs) (latest scale graphs proofs)
+cycle_turns_overload : (graphs : List Digraph) (proofs : List RatioClaim) (scale : ℕ) → All IsSoundGraph graphs → AreGiven graphs proofs
+    → EachDivides (fractions proofs) scale → scale < rate_at scale proofs → latest scale graphs proofs < turned (cycle_turns_of graphs proofs) (latest scale graphs proofs)
 cycle_turns_overload graphs proofs scale sound given divides over =
     let d : scale + (rate_at scale proofs - scale) ≡ rate_at scale proofs = omega arith in
     let some : 0 < rate_at scale proofs - scale = omega arith in
@@ -91,19 +91,19 @@ cycle_turns_overload graphs proofs scale sound given divides over =
     plain scale (rate_at scale proofs - scale) (cycle_turn_works (cycle_turns_of graphs proofs)) (latest scale graphs proofs)
     (turned (cycle_turns_of graphs proofs) (latest scale graphs proofs)) some (rw d (all graphs proofs scale (latest scale graphs proofs) sound given divides)) far
 
-over_at : (graphs : List Digraph) (proofs : List RatioProof) → IsPlannedAboveOne graphs proofs → (scale : ℕ) → IsScale (fractions_of proofs) scale → scale < rate_at scale proofs
-over_at graphs proofs above scale is = rw (scale_same (fractions_of proofs) above.0 scale above.1 is) at above.2.1
+over_at : (graphs : List Digraph) (proofs : List RatioClaim) → IsPlannedAboveOne graphs proofs → (scale : ℕ) → IsScale (fractions proofs) scale → scale < rate_at scale proofs
+over_at graphs proofs above scale is = rw (scale_same (fractions proofs) above.0 scale above.1 is) at above.2.1
 
 -- A step time up to the latest time has too much work.
-pub overload_has_a_time : (graphs : List Digraph) (proofs : List RatioProof) → AreGraphs graphs → AreGiven graphs proofs → IsPlannedAboveOne graphs proofs → (scale : ℕ)
-    → IsScale (fractions_of proofs) scale → (t : ℕ) × IsStepTime (cycle_turns_of graphs proofs) t × (t ≤ latest scale graphs proofs) × (t < turned (cycle_turns_of graphs proofs) t)
+pub overload_has_a_time : (graphs : List Digraph) (proofs : List RatioClaim) → AreGraphs graphs → AreGiven graphs proofs → IsPlannedAboveOne graphs proofs → (scale : ℕ)
+    → IsScale (fractions proofs) scale → (t : ℕ) × IsStepTime (cycle_turns_of graphs proofs) t × (t ≤ latest scale graphs proofs) × (t < turned (cycle_turns_of graphs proofs) t)
 overload_has_a_time graphs proofs are given above scale is =
     steps_decide (cycle_turns_of graphs proofs) (are_cycle_turns graphs proofs are.sound given) (latest scale graphs proofs)
     (cycle_turns_overload graphs proofs scale are.sound given is.multiple (over_at graphs proofs above scale is))
 
 -- A search with enough steps finds a time.
-pub search_ends : (graphs : List Digraph) (proofs : List RatioProof) → AreGraphs graphs → AreGiven graphs proofs → IsPlannedAboveOne graphs proofs → (scale : ℕ)
-    → IsScale (fractions_of proofs) scale → (budget last : ℕ) → latest scale graphs proofs ≤ budget → IsOverFound (cycle_turns_of graphs proofs) budget (Spent last) → ⊥
+pub search_ends : (graphs : List Digraph) (proofs : List RatioClaim) → AreGraphs graphs → AreGiven graphs proofs → IsPlannedAboveOne graphs proofs → (scale : ℕ)
+    → IsScale (fractions proofs) scale → (budget last : ℕ) → latest scale graphs proofs ≤ budget → IsOverFound (cycle_turns_of graphs proofs) budget (Spent last) → ⊥
 search_ends graphs proofs are given above scale is budget last enough spent =
     let s = overload_has_a_time graphs proofs are given above scale is in
     let fits = spent.1 s.0 (omega (arith, s.2, spent.2, steps_few (cycle_turns_of graphs proofs) last)) s.1 in
@@ -114,7 +114,7 @@ some_cycle_turn [] t l = let e = turned_none t in absurd (omega arith)
 some_cycle_turn (c ∷ cycle_turns) t l = omega arith
 
 -- Some task has a turn.
-pub cycle_turns_some : (graphs : List Digraph) (proofs : List RatioProof) → AreGraphs graphs → AreGiven graphs proofs → IsPlannedAboveOne graphs proofs → 1 ≤ length (cycle_turns_of graphs proofs)
+pub cycle_turns_some : (graphs : List Digraph) (proofs : List RatioClaim) → AreGraphs graphs → AreGiven graphs proofs → IsPlannedAboveOne graphs proofs → 1 ≤ length (cycle_turns_of graphs proofs)
 cycle_turns_some graphs proofs are given above =
     let s = overload_has_a_time graphs proofs are given above above.0 above.1 in
     some_cycle_turn (cycle_turns_of graphs proofs) s.0 s.3

@@ -11,7 +11,7 @@ use Rattle.drt_graph.specs.WalkLabel.{demand_of}
 use Rattle.drt_graph.proofs.WalkLabels.{parts_of}
 use Rattle.drt_sweep.specs.Dues.{sum_due}
 use Rattle.drt_demand.specs.Dbf.{dbf_at}
-use Rattle.drt_ratio.specs.declared.ratio_proof.RatioProof.{RatioProof}
+use Rattle.drt_rates.specs.declared.ratio_claim.RatioClaim.{RatioClaim}
 use Rattle.drt_graph.proofs.Paths.{work_none}
 use Rattle.drt_horizon.specs.declared.answers.Horizon.TheVariants.{Under}
 use Rattle.drt_horizon.specs.Given.{AreGiven}
@@ -64,7 +64,7 @@ front_walks (g ∷ graphs) (f ∷ fronts) t are =
     (w.0 ∷ r.0, (w.1, r.1), omega (arith, w.2, r.2))
 
 -- A time with too much demand is within the horizon.
-pub demands_within : (graphs : List Digraph) (proofs : List RatioProof) → AreGraphs graphs → AreGiven graphs proofs → (bound : ℕ)
+pub demands_within : (graphs : List Digraph) (proofs : List RatioClaim) → AreGraphs graphs → AreGiven graphs proofs → (bound : ℕ)
     → IsHorizonPlan graphs proofs (Ok (Under bound)) → (fronts : List (List FrontEntry)) → AreWalkFronts graphs fronts → (t : ℕ) → t < demands graphs fronts t → t ≤ bound
 demands_within graphs proofs are given bound plan fronts is t over =
     let w = front_walks graphs fronts t is in

@@ -3,7 +3,7 @@ use Rattle.std.specs.Prelude.{◌≡◌, ℕ, zero, suc, ◌+◌, ◌*◌, ◌/�
 use Rattle.drt_model.specs.Numbers.{most_cycle}
 use Rattle.drt_model.specs.Digraph.{Digraph}
 use Rattle.drt_model.specs.Walk.{work, cycle_span}
-use Rattle.drt_ratio.specs.declared.ratio_proof.RatioProof.{RatioProof}
+use Rattle.drt_rates.specs.declared.ratio_claim.RatioClaim.{RatioClaim}
 use Rattle.drt_horizon.specs.declared.cycle_turns.CycleTurn.{CycleTurn}
 use Rattle.drt_horizon.specs.declared.answers.Over.{Over}
 use Rattle.drt_horizon.specs.declared.answers.Over.TheVariants.{Found, Spent}
@@ -18,7 +18,7 @@ with_cycle_turn g [] cycle_turns = cycle_turns
 with_cycle_turn g (v ∷ vs) cycle_turns = record { work = work g (v ∷ vs); span = cycle_span g (v ∷ vs) } ∷ cycle_turns
 
 -- The turns of the tasks that have a cycle: the sums of its execution times and of its separations.
-unfoldable pub cycle_turns_of : List Digraph → List RatioProof → List CycleTurn
+unfoldable pub cycle_turns_of : List Digraph → List RatioClaim → List CycleTurn
 cycle_turns_of [] proofs = []
 cycle_turns_of (g ∷ graphs) [] = []
 cycle_turns_of (g ∷ graphs) (p ∷ proofs) = with_cycle_turn g p.cycle (cycle_turns_of graphs proofs)

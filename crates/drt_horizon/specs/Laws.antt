@@ -9,8 +9,8 @@ use Rattle.drt_graph.specs.Horizon.{constant_of}
 use Rattle.drt_graph.specs.Graphs.{AreGraphs}
 use Rattle.drt_graph.specs.declared.front.FrontEntry.{FrontEntry}
 use Rattle.drt_graph.specs.WalkLabel.{IsLabelOf}
-use Rattle.drt_ratio.specs.declared.ratio_proof.RatioProof.{RatioProof}
-use Rattle.drt_ratio.specs.SetRatios.{fractions_of}
+use Rattle.drt_rates.specs.declared.ratio_claim.RatioClaim.{RatioClaim}
+use Rattle.drt_rates.specs.RatioClaims.{fractions}
 use Rattle.drt_horizon.specs.declared.answers.Horizon.TheVariants.{Under}
 use Rattle.drt_horizon.specs.declared.answers.Over.TheVariants.{Spent}
 use Rattle.drt_horizon.specs.Given.{AreGiven}
@@ -44,27 +44,27 @@ efforts_together (g ∷ graphs) (w ∷ walks) = work g w + efforts_together grap
 -- Where the plan is a horizon, each time by which walks with more work than time are due is at most the horizon.
 abbrev pub HorizonHolds : Type 0
 HorizonHolds =
-    (graphs : List Digraph) (proofs : List RatioProof) → AreGraphs graphs → AreGiven graphs proofs →
+    (graphs : List Digraph) (proofs : List RatioClaim) → AreGraphs graphs → AreGiven graphs proofs →
     (bound : ℕ) → IsHorizonPlan graphs proofs (Ok (Under bound)) →
     (t : ℕ) (walks : List (List ℕ)) → AreDue t graphs walks → t < efforts_together graphs walks →
     t ≤ bound
 
 -- A time by which an overload shows: the scale times the work of one turn of each cycle, over the rate less the scale, and one.
-abbrev pub latest : ℕ → List Digraph → List RatioProof → ℕ
+abbrev pub latest : ℕ → List Digraph → List RatioClaim → ℕ
 latest scale graphs proofs = scale * cycle_turn_works (cycle_turns_of graphs proofs) / (rate_at scale proofs - scale) + 1
 
 -- Where the plan is that the utilisation is above one, a step time up to that time has more work of whole turns than time.
 abbrev pub OverloadHasATime : Type 0
 OverloadHasATime =
-    (graphs : List Digraph) (proofs : List RatioProof) → AreGraphs graphs → AreGiven graphs proofs → IsPlannedAboveOne graphs proofs →
-    (scale : ℕ) → IsScale (fractions_of proofs) scale →
+    (graphs : List Digraph) (proofs : List RatioClaim) → AreGraphs graphs → AreGiven graphs proofs → IsPlannedAboveOne graphs proofs →
+    (scale : ℕ) → IsScale (fractions proofs) scale →
     (t : ℕ) × IsStepTime (cycle_turns_of graphs proofs) t × (t ≤ latest scale graphs proofs) × (t < turned (cycle_turns_of graphs proofs) t)
 
 -- A search whose budget is at least that time does not spend it.
 abbrev pub SearchEnds : Type 0
 SearchEnds =
-    (graphs : List Digraph) (proofs : List RatioProof) → AreGraphs graphs → AreGiven graphs proofs → IsPlannedAboveOne graphs proofs →
-    (scale : ℕ) → IsScale (fractions_of proofs) scale →
+    (graphs : List Digraph) (proofs : List RatioClaim) → AreGraphs graphs → AreGiven graphs proofs → IsPlannedAboveOne graphs proofs →
+    (scale : ℕ) → IsScale (fractions proofs) scale →
     (budget last : ℕ) → latest scale graphs proofs ≤ budget → IsOverFound (cycle_turns_of graphs proofs) budget (Spent last) → ⊥
 
 -- The label is that of a walk of the graph.
@@ -79,7 +79,7 @@ AreWalkFronts graphs fronts = Each (λ g front. All (IsWalkLabel g) front) graph
 -- horizon.
 abbrev pub DemandsWithin : Type 0
 DemandsWithin =
-    (graphs : List Digraph) (proofs : List RatioProof) → AreGraphs graphs → AreGiven graphs proofs →
+    (graphs : List Digraph) (proofs : List RatioClaim) → AreGraphs graphs → AreGiven graphs proofs →
     (bound : ℕ) → IsHorizonPlan graphs proofs (Ok (Under bound)) →
     (fronts : List (List FrontEntry)) → AreWalkFronts graphs fronts →
     (t : ℕ) → t < demands graphs fronts t →

@@ -4,8 +4,7 @@ ghost use Rattle.drt_horizon.specs.Plans.{IsHorizonPlan};
 
 use crate::answers::{Beyond, Horizon};
 use drt_graph::Graphs;
-use drt_rates::{horizon, rate, scale};
-use drt_ratio::RatioProof;
+use drt_rates::{RatioClaim, horizon, rate, scale};
 
 const GREATEST_BOUND: u128 = 1 << 40;
 
@@ -13,22 +12,22 @@ const GREATEST_BOUND: u128 = 1 << 40;
 /// the ratios have no common scale of at most 2^60, TooFar where the horizon exceeds 2^40 ticks. It takes no memory.
 ///
 /// Source: Stigge, Ekberg, Guan and Yi, "The Digraph Real-Time Task Model" (RTAS 2011), with potentials for the constants.
-pub fn plan(graphs: &Graphs, proofs: &[RatioProof]) -> Result<Horizon, Beyond>
+pub fn plan(graphs: &Graphs, proofs: &[RatioClaim]) -> Result<Horizon, Beyond>
     requires { AreGiven graphs.now proofs.now }
     ensures { IsHorizonPlan graphs.now proofs.now result }
 {
     graphs.keep_limits();
-    let Some(common) = scale::<RatioProof>(proofs) else {
+    let Some(common) = scale(proofs) else {
         return Err(Beyond::TooFine);
     };
-    let sum = rate::<RatioProof>(proofs, common);
+    let sum = rate(proofs, common);
     if sum == common as u128 {
         return Ok(Horizon::One);
     }
     if sum > common as u128 {
         return Ok(Horizon::Over);
     }
-    let bound = horizon::<RatioProof>(graphs, proofs, common, sum);
+    let bound = horizon(graphs, proofs, common, sum);
     if bound > GREATEST_BOUND {
         return Err(Beyond::TooFar);
     }

@@ -8,7 +8,7 @@ ghost use Rattle.drt_horizon.specs.CycleTurns.{AreCycleTurns, IsOverFound, cycle
 use crate::answers::Over;
 use crate::cycle_turns::{CycleTurn, cycle_turn_of, next_step, work_within};
 use drt_graph::Graphs;
-use drt_ratio::RatioProof;
+use drt_rates::RatioClaim;
 
 // The least step time with more work than time, among the first `budget` ones.
 fn search(cycle_turns: &[CycleTurn], budget: u64) -> Over
@@ -33,7 +33,7 @@ fn search(cycle_turns: &[CycleTurn], budget: u64) -> Over
 /// The least step time, in ticks, at which whole turns of the cycles that have the tasks' ratios have more work than time,
 /// if it is among the first `budget` step times. A step time is a positive multiple of the sum of separations of such a
 /// cycle, and equal ones count once. It takes no memory.
-pub fn overload(graphs: &Graphs, proofs: &[RatioProof], budget: u64) -> Over
+pub fn overload(graphs: &Graphs, proofs: &[RatioClaim], budget: u64) -> Over
     requires given { AreGiven graphs.now proofs.now }
     requires above { IsPlannedAboveOne graphs.now proofs.now }
     requires budget_some { 1 ≤ budget }

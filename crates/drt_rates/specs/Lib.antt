@@ -1,2 +1,3 @@
+pub mod RatioClaims
 pub mod Rates
 pub mod Demands

@@ -1,10 +1,12 @@
 -- The graphs of a set, with a ratio and potentials for each.
-use Rattle.std.specs.Prelude.{ℕ, ◌^◌, ◌<◌, ◌≤◌, ℤ, List, [], ◌∷◌}
+use Rattle.std.specs.Prelude.{ℕ, ◌<◌, ◌≤◌, List}
 use Rattle.drt_model.specs.Each.{Each}
 use Rattle.drt_model.specs.Digraph.{Digraph}
 use Rattle.drt_model.specs.Utilisation.{Fraction, IsScale}
 use Rattle.drt_graph.specs.Fits.{AreNear}
 use Rattle.drt_model.specs.Numbers.{most_scale, most_term}
+use Rattle.drt_rates.specs.declared.ratio_claim.RatioClaim.{RatioClaim}
+use Rattle.drt_rates.specs.RatioClaims.{fraction_of}
 
 -- The numerator is at most 1,000,000,000, and the denominator is 1 to 1,000,000,000.
 pub record IsSmallRatio (r : Fraction) : Type 0 where
@@ -16,6 +18,6 @@ pub record IsSmallRatio (r : Fraction) : Type 0 where
 abbrev pub IsTooFine : List Fraction → Type 0
 IsTooFine ratios = (scale : ℕ) × IsScale ratios scale × (most_scale < scale)
 
--- There is an item for each graph, in order, whose fraction is small, and whose heights are potentials near 0.
-abbrev pub AreRated : {X : Type 0} → (X → Fraction) → (X → List ℤ) → List Digraph → List X → Type 0
-AreRated fraction heights graphs items = Each (λ g x. IsSmallRatio (fraction x) × AreNear g (heights x)) graphs items
+-- There is a claim for each graph, in order, whose fraction is small, and whose potentials are near 0.
+abbrev pub AreRated : List Digraph → List RatioClaim → Type 0
+AreRated graphs claims = Each (λ g c. IsSmallRatio (fraction_of c) × AreNear g c.potentials) graphs claims

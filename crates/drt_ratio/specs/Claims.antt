@@ -15,9 +15,10 @@ pub record IsRatioProof (g : Digraph) (a b : ℕ) (cycle : List ℕ) (hs : List 
   pub distinct : AreDistinct cycle
   pub canonical : AreCanonical g a b hs
 
--- The ratio's numbers are at most 100,000,000, and the potentials lie in 0 to 10,000,000,000,000,000.
+-- The ratio's numbers are at most 100,000,000, the denominator isn't 0, and the potentials lie in 0 to 10,000,000,000,000,000.
 pub record IsInReach (g : Digraph) (a b : ℕ) (hs : List ℤ) : Type 0 where
   pub num : a ≤ most_cycle
+  pub some : 1 ≤ b
   pub den : b ≤ most_cycle
   pub low : (v : ℕ) → v < vertex_count g → pos 0 ≤ℤ potential_of hs v
   pub high : (v : ℕ) → v < vertex_count g → potential_of hs v ≤ℤ pos most_height

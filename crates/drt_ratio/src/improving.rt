@@ -9,11 +9,11 @@ ghost use Rattle.drt_ratio.specs.Levels.{height, IsLevelBelow};
 ghost use Rattle.drt_model.specs.Walk.{IsCycle, work, cycle_span};
 
 use crate::levels::{Level, levels};
-use crate::ratio_proof::RatioProof;
 use crate::traces::gaining;
 use drt_graph::{Graph, cycle_sums};
 use drt_model::{Memory, Row};
 use drt_num::Ratio;
+use drt_rates::RatioClaim;
 use std::alloc::Global;
 
 // The heights as potentials.
@@ -50,10 +50,10 @@ fn ratio_of(graph: &Graph, cycle: &[u32]) -> Ratio
 ///
 /// It takes some hundred kilobytes of memory while it runs. Source of the potentials: Bellman and Ford; of the steps from
 /// ratio to ratio: Dinkelbach's method for ratios.
-pub fn greatest(alloc: Global, graph: &Graph) -> Result<RatioProof, Memory>
-    ensures greatest { IfOk result (λ proof. IsRatioProof graph.now proof.ratio.num proof.ratio.den proof.cycle proof.potentials) }
-    ensures reach { IfOk result (λ proof. IsInReach graph.now proof.ratio.num proof.ratio.den proof.potentials) }
-    ensures keeps { IfOk result (λ proof. ProvesRatio graph.now proof.ratio.num proof.ratio.den proof.cycle proof.potentials) }
+pub fn greatest(alloc: Global, graph: &Graph) -> Result<RatioClaim, Memory>
+    ensures greatest { IfOk result (λ proof. IsRatioProof graph.now proof.num proof.den proof.cycle proof.potentials) }
+    ensures reach { IfOk result (λ proof. IsInReach graph.now proof.num proof.den proof.potentials) }
+    ensures keeps { IfOk result (λ proof. ProvesRatio graph.now proof.num proof.den proof.cycle proof.potentials) }
 {
     let mut ratio = Ratio::new(0, 1);
     let mut cycle = Vec::new(alloc);
@@ -64,8 +64,9 @@ pub fn greatest(alloc: Global, graph: &Graph) -> Result<RatioProof, Memory>
         let Some(found) = gaining(alloc, graph, a, b, levels.as_slice())? else {
             let count = graph.vertex_count();
             let potentials = potentials(alloc, &levels[count as usize - 1], count)?;
-            return Ok(RatioProof {
-                ratio,
+            return Ok(RatioClaim {
+                num: a,
+                den: b,
                 cycle: Row::from_vec(cycle),
                 potentials: Row::from_vec(potentials),
             });

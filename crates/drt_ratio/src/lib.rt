@@ -14,11 +14,9 @@
 mod checking;
 mod improving;
 mod levels;
-mod ratio_proof;
 mod set_ratios;
 mod traces;
 
 pub use checking::check_ratio;
 pub use improving::greatest;
-pub use ratio_proof::RatioProof;
 pub use set_ratios::{proofs_give_ratios, utilisation};

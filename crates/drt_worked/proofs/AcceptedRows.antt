@@ -17,7 +17,7 @@ use Rattle.drt_graph.specs.declared.front.FrontEntry.{FrontEntry}
 use Rattle.drt_graph.specs.FrontEntry.{due, IsNextEntry}
 use Rattle.drt_claims.specs.Fronts.{HasOpenings, IsClosedFront, IsExtended, IsEntryWithin, works_due}
 use Rattle.drt_claims.specs.Rules.{Accepts}
-use Rattle.drt_claims.specs.declared.evidence.RatioClaim.{RatioClaim}
+use Rattle.drt_rates.specs.declared.ratio_claim.RatioClaim.{RatioClaim}
 use Rattle.drt_claims.proofs.Accepting.{AreFrontClaims, AreRatioClaims, IsEdfYes, yes_accepted}
 use Rattle.drt_rows.proofs.SetRows.{short_is_constrained}
 use Rattle.drt_rows.proofs.Sets.{edge, short}

@@ -1,6 +1,6 @@
 use Rattle.std.proofs.Common.{arith, refl, subst, sym}
 use Rattle.std.specs.Int.{IsGcd}
-use Rattle.drt_claims.specs.declared.evidence.RatioClaim.{RatioClaim}
+use Rattle.drt_rates.specs.declared.ratio_claim.RatioClaim.{RatioClaim}
 use Rattle.drt_check.proofs.Lists.{all_more}
 use Rattle.drt_check.proofs.claimed.are_lowest.Goals as goal
 

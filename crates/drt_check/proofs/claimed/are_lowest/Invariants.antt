@@ -1,7 +1,7 @@
 -- The claims that were taken are in lowest terms.
 use Rattle.std.proofs.Common.{ℕ, ◌<◌, get_or}
 use Rattle.std.specs.Int.{IsGcd}
-use Rattle.drt_claims.specs.declared.evidence.RatioClaim.{RatioClaim}
+use Rattle.drt_rates.specs.declared.ratio_claim.RatioClaim.{RatioClaim}
 use Rattle.drt_check.proofs.claimed.are_lowest.Given as goal
 
 abbrev pub invariant-ratios : goal.invariant-ratios

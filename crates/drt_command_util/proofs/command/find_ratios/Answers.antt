@@ -10,6 +10,6 @@ graphs-preserved c =
     record {
       are = proofs_more c.args.graphs.now c.graphs.i c.graph.result.now c.graphs.proofs.items
           c.push.new.self.items p l c.graph.ensures.graph c.in_ok-push.ensures.items c.graphs.invariant.are c.in_ok-greatest.ensures.greatest;
-      small = rw c.in_ok-push.ensures.items (small_push c.graphs.proofs.items p c.graphs.invariant.small c.in_ok-greatest.ensures.reach.num c.in_ok-greatest.ensures.reach.den);
+      small = rw c.in_ok-push.ensures.items (small_push _ c.graphs.proofs.items p c.graphs.invariant.small c.in_ok-greatest.ensures.reach);
       count = grind (arith, c.in_ok-push.ensures.items, c.graphs.invariant.count);
     }

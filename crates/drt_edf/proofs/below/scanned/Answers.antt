@@ -2,11 +2,7 @@ use Rattle.std.proofs.Common.{arith, subst, sym}
 use Rattle.std.specs.Prelude.{None, Some}
 use Rattle.drt_graph.specs.Graphs.{AreGraphs}
 use Rattle.drt_rates.specs.Demands.{IsLeastExcess}
-use Rattle.drt_horizon.proofs.Givens.{given_small}
 use Rattle.drt_claims.specs.Claims.{graphs_of}
-use Rattle.drt_claims.specs.Ranges.{IsEvidenceInRange}
-use Rattle.drt_claims.specs.declared.evidence.Evidence.TheVariants.{EdfYes}
-use Rattle.drt_edf.specs.Answers.{IsExactEdfYes}
 use Rattle.drt_edf_fronts.specs.LabelFronts.{AreDemandWalks}
 use Rattle.drt_edf.proofs.Decided.{listed_walks, plan_near, yes_in_range}
 use Rattle.drt_edf.proofs.Gathered.{fronts_within, walks_work}
@@ -17,26 +13,21 @@ use Rattle.drt_edf.proofs.below.scanned.Goals as goal
 pub scan-requires : goal.scan-requires
 scan-requires c = record { fronts = rw (c.as_slice.ensures, c.graphs-graphs.ensures.graphs) (fronts_within (graphs_of c.args.set.now.tasks) c.args.bound c.args.fronts c.requires.fronts) }
 
-pub claims_of-requires : goal.claims_of-requires
-claims_of-requires c = given_small (graphs_of c.args.set.now.tasks) c.args.proofs c.requires.given
-
-pub returns-in_ok-claims_of-in-None-clause-done : goal.returns-in_ok-claims_of-in-None-clause-done
-returns-in_ok-claims_of-in-None-clause-done c =
+pub returns-in-None-clause-done : goal.returns-in-None-clause-done
+returns-in-None-clause-done c =
     let kept = subst AreGraphs c.graphs-graphs.ensures.graphs c.keep_limits-2.ensures in
     let none = subst (λ o. IsLeastExcess c.graphs-graphs.result.now c.as_slice.result.now c.args.bound o) c.in-None.is c.in_ok-scan.ensures in
     let at = subst (λ fs. IsLeastExcess c.graphs-graphs.result.now fs c.args.bound None) c.as_slice.ensures none in
     let room = subst (λ gs. IsLeastExcess gs c.args.fronts c.args.bound None) c.graphs-graphs.ensures.graphs at in
-    let yes = is_yes c.horizon_holds.ensures c.deadlines_decide.ensures c.args.set.now.version c.args.set.now.tasks c.keep_limits.ensures.limits c.keep_limits.ensures.constrained kept
-    c.args.proofs c.requires.given c.args.bound c.requires.plan c.args.fronts c.requires.fronts room in
-    subst (λ x. IsExactEdfYes c.args.set.now.tasks x c.args.fronts) (sym c.in_ok-claims_of-in-None.ensures) yes
+    is_yes c.horizon_holds.ensures c.deadlines_decide.ensures c.args.set.now.version c.args.set.now.tasks c.keep_limits.ensures.limits c.keep_limits.ensures.constrained kept
+    c.args.proofs c.requires.given c.args.bound c.requires.plan c.args.fronts c.requires.fronts room
 
-pub returns-in_ok-claims_of-in-None-clause-range : goal.returns-in_ok-claims_of-in-None-clause-range
-returns-in_ok-claims_of-in-None-clause-range c =
+pub returns-in-None-clause-range : goal.returns-in-None-clause-range
+returns-in-None-clause-range c =
     let graphs = graphs_of c.args.set.now.tasks in
     let kept = subst AreGraphs c.graphs-graphs.ensures.graphs c.keep_limits-2.ensures in
     let near = plan_near graphs c.args.proofs c.args.bound c.requires.plan in
-    let range = yes_in_range graphs c.args.proofs c.args.bound c.args.fronts kept c.requires.given near c.requires.fronts c.requires.counted in
-    subst (λ x. IsEvidenceInRange (EdfYes x c.args.fronts)) (sym c.in_ok-claims_of-in-None.ensures) range
+    yes_in_range graphs c.args.proofs c.args.bound c.args.fronts kept c.requires.given near c.requires.fronts c.requires.counted
 
 pub demand_walks-requires : goal.demand_walks-requires
 demand_walks-requires c = (c.args.bound, rw (c.as_slice-in-Some.ensures, c.graphs-graphs.ensures.graphs) c.requires.fronts)

@@ -20,7 +20,7 @@ turns_of-requires c some =
     let given = rw (f, k) at c.tasks.invariant.given in
     let p = c.index-proofs-i.result in
     let same : c.as_slice-cycle.result.now ≡ c.index-proofs-i.result.cycle = c.as_slice-cycle.ensures ∙ ap (λ p. p.cycle) (sym c.index-proofs-i.is) in
-    let is = is_cycle (graph_of c.args.graphs.now c.tasks.i) p.ratio.num p.ratio.den p.cycle given.0.greatest.has (rw same at some) in
+    let is = is_cycle (graph_of c.args.graphs.now c.tasks.i) p.num p.den p.cycle given.0.greatest.has (rw same at some) in
     rw (same, c.graph.ensures.graph) is
 
 pub tasks-preserved : goal.tasks-preserved

@@ -1,13 +1,12 @@
 use Rattle.std.proofs.Common.{arith, refl}
-use Rattle.drt_ratio.proofs.Scales.{ratios_small}
 use Rattle.drt_horizon.proofs.Givens.{given_count, given_rated, given_small}
 use Rattle.drt_horizon.proofs.plans.plan.Goals as goal
 
 pub scale-requires : goal.scale-requires
-scale-requires c = ratios_small c.args.proofs.now (given_small c.args.graphs.now c.args.proofs.now c.requires)
+scale-requires c = given_small c.args.graphs.now c.args.proofs.now c.requires
 
 pub rate-sum-requires-clause-small : goal.rate-sum-requires-clause-small
-rate-sum-requires-clause-small c = ratios_small c.args.proofs.now (given_small c.args.graphs.now c.args.proofs.now c.requires)
+rate-sum-requires-clause-small c = given_small c.args.graphs.now c.args.proofs.now c.requires
 
 pub rate-sum-requires-clause-few : goal.rate-sum-requires-clause-few
 rate-sum-requires-clause-few c = omega (arith, given_count c.args.graphs.now c.args.proofs.now c.requires, c.keep_limits.ensures.few)

@@ -21,7 +21,7 @@ cycle_turn_of-requires-clause-is c =
     let p = c.index-proofs-i.result in
     let same : c.as_slice-cycle.result.now ≡ c.index-proofs-i.result.cycle = c.as_slice-cycle.ensures ∙ ap (λ p. p.cycle) (sym c.index-proofs-i.is) in
     let some : 0 < length c.index-proofs-i.result.cycle = rw same at (positive (length c.as_slice-cycle.result.now) c.if-cycle-ne0.true) in
-    rw (same, c.graph.ensures.graph) (is_cycle _ p.ratio.num p.ratio.den p.cycle given.0.greatest.has some)
+    rw (same, c.graph.ensures.graph) (is_cycle _ p.num p.den p.cycle given.0.greatest.has some)
 
 pub cycle_turn_of-requires-clause-few : goal.cycle_turn_of-requires-clause-few
 cycle_turn_of-requires-clause-few c =
@@ -34,7 +34,7 @@ cycle_turn_of-requires-clause-few c =
     let same : c.as_slice-cycle.result.now ≡ c.index-proofs-i.result.cycle = c.as_slice-cycle.ensures ∙ ap (λ p. p.cycle) (sym c.index-proofs-i.is) in
     let some : 0 < length c.index-proofs-i.result.cycle = rw same at (positive (length c.as_slice-cycle.result.now) c.if-cycle-ne0.true) in
     let sound = rw c.graph.ensures.graph at c.graph.ensures.sound in
-    let few = cycle_few _ sound p.cycle (is_cycle _ p.ratio.num p.ratio.den p.cycle given.0.greatest.has some) given.0.greatest.distinct in
+    let few = cycle_few _ sound p.cycle (is_cycle _ p.num p.den p.cycle given.0.greatest.has some) given.0.greatest.distinct in
     rw same (omega (arith, few, sound.few))
 
 pub tasks-preserved : goal.tasks-preserved

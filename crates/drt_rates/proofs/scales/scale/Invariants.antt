@@ -1,10 +1,11 @@
 -- The number is the scale of the ratios that were taken.
-use Rattle.std.proofs.Common.{◌^◌, ◌≤◌, take, map}
+use Rattle.std.proofs.Common.{◌^◌, ◌≤◌, take}
 use Rattle.drt_model.specs.Utilisation.{IsScale}
+use Rattle.drt_rates.specs.RatioClaims.{fractions}
 use Rattle.drt_rates.proofs.scales.scale.Given as goal
 
 abbrev pub invariant-ratios : goal.invariant-ratios
-invariant-ratios g l = record {
-  scale : IsScale (map g.R.Rated.fraction (take l.i l.ratios)) l.common;
+invariant-ratios l = record {
+  scale : IsScale (fractions (take l.i l.ratios)) l.common;
   most : l.common ≤ 2 ^ 60;
 }
