@@ -119,7 +119,13 @@ fn push_ratios(
 {
     'tasks: for i in 0..tasks.len() {
         let proof = &proofs[i];
-        push_fraction(alloc, text, tasks[i].name.as_slice(), proof.num as u128, proof.den as u128)?;
+        push_fraction(
+            alloc,
+            text,
+            tasks[i].name.as_slice(),
+            proof.num as u128,
+            proof.den as u128,
+        )?;
     }
     Ok(())
 }

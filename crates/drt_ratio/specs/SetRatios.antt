@@ -15,8 +15,8 @@ abbrev pub AreSmall : List RatioClaim → Type 0
 AreSmall claims = All (λ c. IsSmallRatio (fraction_of c)) claims
 
 -- The fraction a / b is the rate of the ratios over their scale, in lowest terms, where the scale is at most 2^60.
-abbrev pub IsUtilisation : List Fraction → ℕ → ℕ → Type 0
-IsUtilisation ratios a b = (scale : ℕ) × IsScale ratios scale × (scale ≤ most_scale) × (a * scale ≡ rate scale ratios * b) × IsGcd a b 1 × (1 ≤ b)
+abbrev pub IsRatioSum : List Fraction → ℕ → ℕ → Type 0
+IsRatioSum ratios a b = (scale : ℕ) × IsScale ratios scale × (scale ≤ most_scale) × (a * scale ≡ rate scale ratios * b) × IsGcd a b 1 × (1 ≤ b)
 
 -- Each claim is the ratio of its graph with its evidence, in order.
 abbrev pub AreRatioProofs : List Digraph → List RatioClaim → Type 0

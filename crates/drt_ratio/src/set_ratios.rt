@@ -1,7 +1,7 @@
 //! The utilisation of a set of tasks, by their ratios.
 ghost use Rattle.std.specs.Prelude.{◌≤◌, MatchOption, length};
 ghost use Rattle.drt_rates.specs.Rates.{IsTooFine};
-ghost use Rattle.drt_ratio.specs.SetRatios.{AreSmall, IsUtilisation, ProofsGiveRatios};
+ghost use Rattle.drt_ratio.specs.SetRatios.{AreSmall, IsRatioSum, ProofsGiveRatios};
 ghost use Rattle.drt_rates.specs.RatioClaims.{fractions};
 
 use drt_num::Ratio;
@@ -11,7 +11,7 @@ use drt_rates::{RatioClaim, rate, scale};
 pub fn utilisation(proofs: &[RatioClaim]) -> Option<Ratio>
     requires small { AreSmall proofs.now }
     requires few { length proofs.now ≤ 32 }
-    ensures { MatchOption result (IsTooFine (fractions proofs.now)) (λ sum. IsUtilisation (fractions proofs.now) sum.num sum.den) }
+    ensures { MatchOption result (IsTooFine (fractions proofs.now)) (λ sum. IsRatioSum (fractions proofs.now) sum.num sum.den) }
 {
     let Some(common) = scale(proofs) else {
         return None;

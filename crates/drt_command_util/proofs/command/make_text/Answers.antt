@@ -2,14 +2,14 @@
 use Rattle.std.proofs.Common.{map, subst}
 use Rattle.drt_model.specs.Digraph.{digraph_of}
 use Rattle.drt_model.specs.Utilisation.{AreRatios}
-use Rattle.drt_ratio.specs.SetRatios.{IsUtilisation}
+use Rattle.drt_ratio.specs.SetRatios.{IsRatioSum}
 use Rattle.drt_rates.specs.RatioClaims.{fractions}
 use Rattle.drt_command_util.proofs.command.make_text.Goals as goal
 
 pub returns-in-Ok-print_lines-clause-text : goal.returns-in-Ok-print_lines-clause-text
 returns-in-Ok-print_lines-clause-text c =
     let ps = c.in-Ok.proofs.items in
-    let u : IsUtilisation (fractions ps) c.in-Some.total.num c.in-Some.total.den = rw c.as_slice.ensures.value at c.in-Some.ensures in
+    let u : IsRatioSum (fractions ps) c.in-Some.total.num c.in-Some.total.den = rw c.as_slice.ensures.value at c.in-Some.ensures in
     let are : AreRatios (map digraph_of c.args.set.now.tasks) (fractions ps)
     = subst (λ gs. AreRatios gs (fractions ps)) c.requires (c.proofs_give_ratios.ensures c.args.graphs.now ps c.in-Ok.ensures.are) in
     record {

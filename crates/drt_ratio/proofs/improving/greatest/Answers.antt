@@ -39,7 +39,7 @@ returns-in_default-clause-keeps c =
     rw (c.num-a.ensures, c.den-b.ensures.value, c.from_vec.ensures, c.from_vec-in_default.ensures) (rules_kept _ _ _ _ _ c.improving.cycle.items _ (ended c) c.improving.invariant.has)
 
 pub returns-in_default-clause-reach : goal.returns-in_default-clause-reach
-returns-in_default-clause-reach c = 
+returns-in_default-clause-reach c =
     rw (c.num-a.ensures, c.den-b.ensures.value, c.from_vec-in_default.ensures)
     (in_reach _ _ _ _ _ _ (ended c) c.improving.invariant.num_small c.improving.ratio.positive c.improving.invariant.den_small)
 
