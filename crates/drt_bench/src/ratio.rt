@@ -158,11 +158,7 @@ pub fn run(rt: &impl Print, alloc: Global, mut arguments: Args) -> anyhow::Resul
         if number + 1 == graph_count {
             println!(rt;
                 "{} graphs of {} vertices and {} edges, the last with {}/{}",
-                graph_count,
-                count,
-                edge_count,
-                best.0,
-                best.1
+                graph_count, count, edge_count, best.0, best.1
             )?;
         }
     }
