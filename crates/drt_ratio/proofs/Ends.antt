@@ -67,9 +67,9 @@ rules_kept g a b n levels cycle hs e has = record {
 -- Their numbers are within reach.
 pub in_reach : (g : Digraph) (a b n : ℕ) (levels : List Level) (hs : List ℤ) → Ended g a b n levels hs → a ≤ 100000000 → 1 ≤ b → b ≤ 100000000
     → IsInReach g a b hs
-in_reach g a b n levels hs e num some den = record {
+in_reach g a b n levels hs e num positive den = record {
   num = num;
-  some = some;
+  some = positive;
   den = den;
   low = λ v l. (let is = e.heights v (omega (arith, e.size)) in rw is (omega (arith, ints)));
   high = λ v l.
