@@ -7,7 +7,7 @@ use Rattle.drt_file.specs.trusted.Cutting.{fields_after, is_blank, lines_after, 
 use Rattle.drt_file.specs.trusted.Line.{is_skipped, said}
 use Rattle.drt_responses.specs.Text.{response_text}
 use Rattle.drt_responses.specs.declared.response.Response.{Response}
-use Rattle.drt_command_response.specs.Verdict.{is_response, vertices_from}
+use Rattle.drt_command_response.specs.Verdict.{is_response, vertices_in_order}
 use Rattle.drt_rows.proofs.Sets.{looped, release, short}
 
 -- T (2, 5) with a loop of 5 finishes after 2 ticks, and U (2, 8) with a loop of 8, below it, after 4.
@@ -31,5 +31,5 @@ unfolding lines_after fields_after with_run is_blank is_skipped
 lines_are = refl
 
 -- The vertices that they are of.
-pub vertices_are : vertices_from 0 (short ∷ looped (codes "U") 2 2 8 8 ∷ []) ≡ (0, 0) ∷ (1, 0) ∷ []
+pub vertices_are : vertices_in_order 0 (short ∷ looped (codes "U") 2 2 8 8 ∷ []) ≡ (0, 0) ∷ (1, 0) ∷ []
 vertices_are = refl
