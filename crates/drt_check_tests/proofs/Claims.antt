@@ -6,7 +6,7 @@ use Rattle.drt_model.specs.Walk.{or_zero, sep_in, span}
 use Rattle.drt_claims.specs.declared.evidence.Pair.{Pair}
 use Rattle.drt_claims.specs.Ranges.{IsInRangePair, IsInRangeTree, IsInRangeWalk, IsNumber}
 use Rattle.drt_claims.specs.Trees.{HasShortWalks, IsTree, named}
-use Rattle.drt_check_tests.specs.Worked.{graph, tree}
+use Rattle.drt_check_tests.specs.Worked.{task_graph, tree}
 
 left : (i : ℕ) (p : Pair) → slice_get tree.pairs i ≡ Some p → p.left < 3 + i
 left zero p e = (let f : record { left = 0; right = 1 } ≡ p = cc in rw (← f) (omega arith))
@@ -28,7 +28,7 @@ once (suc (suc (suc (suc n)))) l = absurd (omega arith)
 pub is_tree : IsTree tree
 is_tree = record { some = omega arith; pairs = refl; left = left; right = right; once = once }
 
-pub is_short : HasShortWalks 5 graph tree
+pub is_short : HasShortWalks 5 task_graph tree
 unfolding sep_in or_zero span
 is_short zero d l = (omega arith, tt, omega arith)
 is_short (suc zero) d l = (omega arith, tt, omega arith)

@@ -18,8 +18,8 @@ task = record {
 }
 
 -- Its graph.
-abbrev pub graph : Digraph
-graph = digraph_of task
+abbrev pub task_graph : Digraph
+task_graph = digraph_of task
 
 -- The walks y, x and y y, the pair of the first two, and the pair of that and the third.
 abbrev pub tree : TreeClaim

@@ -1,6 +1,6 @@
 //! The worked task and tree.
 ghost use Rattle.std.specs.Prelude.{◌≡◌, ◌<◌, ◌∷◌, [], All, IfOk, length};
-ghost use Rattle.drt_check_tests.specs.Worked.{graph, task, tree};
+ghost use Rattle.drt_check_tests.specs.Worked.{task, task_graph, tree};
 
 use drt_check_values::{Query, take_values};
 use drt_claims::{Pair, TreeClaim};
@@ -48,7 +48,7 @@ fn given_task(alloc: Global) -> Result<Task, Memory>
 }
 
 fn given_graphs(alloc: Global) -> Result<Graphs, Fail>
-    ensures { IfOk result (λ graphs. graphs ≡ graph ∷ []) }
+    ensures { IfOk result (λ graphs. graphs ≡ task_graph ∷ []) }
 {
     let mut tasks = Vec::new(alloc);
     tasks.push(given_task(alloc)?)?;

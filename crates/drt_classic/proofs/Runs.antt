@@ -11,7 +11,8 @@ use Rattle.drt_classic.specs.declared.state.Draft.{Draft}
 use Rattle.drt_classic.specs.declared.state.State.{State}
 use Rattle.drt_classic.specs.declared.state.Line.{Line}
 use Rattle.drt_classic.specs.ClassicReading.{SaysClassic}
-use Rattle.drt_classic.specs.ClassicFaults.{◌>>=◌, with_last_classic, task_of_draft, after_classic_line, classic_line_step, classic_step, classic_steps}
+use Rattle.drt_file.specs.internal.Steps.{◌>>=◌}
+use Rattle.drt_classic.specs.ClassicFaults.{with_last_classic, task_of_draft, after_classic_line, classic_line_step, classic_step, classic_steps}
 use Rattle.drt_classic.proofs.Fits.{Fits, SaysOwn, SaysNone, says_none}
 use Rattle.drt_classic.proofs.Lines.{Goes, Stepped, stepped, steps_again}
 

@@ -23,7 +23,8 @@ use Rattle.drt_classic.specs.ClassicLimits.{IsFrame, IsClassic, IsClassicSet}
 use Rattle.drt_classic.specs.ClassicWords.{classic_word, head_line}
 use Rattle.drt_classic.specs.ClassicReading.{SaysClassic, lines_of_classic, lines_of, ReadsClassic, IsClassicCauseOf}
 use Rattle.drt_classic.specs.ClassicLaws.{FaultlessClassicTextsRead, ClassicTextsReadAsOneSet}
-use Rattle.drt_classic.specs.ClassicFaults.{◌>>=◌, with_last_classic, task_of_draft, classic_opening, is_head, unless, classic_line_step, classic_step, classic_steps, has_no_frame, first_without_frame, classic_closing, classic_finish, read_classic_text, classic_fault_of}
+use Rattle.drt_file.specs.internal.Steps.{◌>>=◌}
+use Rattle.drt_classic.specs.ClassicFaults.{with_last_classic, task_of_draft, classic_opening, is_head, unless, classic_line_step, classic_step, classic_steps, has_no_frame, first_without_frame, classic_closing, classic_finish, read_classic_text, classic_fault_of}
 use Rattle.drt_classic.specs.Gives.{FailsClassic}
 use Rattle.drt_classic.proofs.Runs.{kept, tasks_in, Ran, ran, Leads, Led, led}
 use Rattle.drt_classic.proofs.Sound.{IsDraft, Kept, ending, opening_kept, runs_kept}

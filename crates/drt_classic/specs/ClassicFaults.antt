@@ -3,6 +3,7 @@
 use Rattle.std.specs.Prelude.{ℕ, ◌+◌, Bool, true, false, not, ◌&&◌, ◌||◌, ◌==◌, nat_le, nat_lt, if◌then◌else◌, List}
 use Rattle.std.specs.Prelude.{[], ◌∷◌, ◌++◌, length, map, Option, Some, None, option_map, Result, Ok, Err, bytes_eq}
 use Rattle.std.specs.List.{list_any, list_all}
+use Rattle.drt_file.specs.internal.Steps.{◌>>=◌}
 use Rattle.drt_file.specs.trusted.Cutting.{lines, fields}
 use Rattle.drt_file.specs.trusted.Words.{is_name, is_number, value, end_word}
 use Rattle.drt_file.specs.trusted.Line.{is_text, is_in_range, is_skipped}
@@ -193,12 +194,6 @@ after_classic_line n s (saying.Frame f) = record { closed = s.closed; last = opt
 after_classic_line n s saying.End = record { closed = s.closed; last = s.last; ended = true }
 
 -- Reading line by line, down to the first fault.
-
-infixl 10 ◌>>=◌
--- What follows a step, where the step has no fault.
-abbrev pub ◌>>=◌ : {A B : Type 0} → Result A ClassicFault → (A → Result B ClassicFault) → Result B ClassicFault
-(Ok x) >>= f = f x
-(Err e) >>= f = Err e
 
 -- The fault with this code at line n, or else what the line gives.
 unfoldable pub unless : {A : Type 0} → ℕ → Option ℕ → A → Result A ClassicFault

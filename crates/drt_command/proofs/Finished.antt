@@ -1,8 +1,6 @@
 -- What a run did whose input was had or not, from how it ended.
-use Rattle.std.proofs.Common.{◌≡◌, ◌≢◌, ◌<◌, ◌≤◌, ◌⊎◌, ℕ, List, Option, inl, inr, Result, Ok, Err, IfOk, IfErr, refl, ap, sym, subst, arith}
-use Rattle.drt_io.specs.Writing.{GrowsBy, GrowsByPrefix}
+use Rattle.std.proofs.Common.{◌≡◌, ℕ, List, Option, inl, inr, Result, Ok, Err, IfOk, IfErr, sym, subst}
 use Rattle.drt_outcome.specs.declared.outcome.Outcome.{Outcome}
-use Rattle.drt_outcome.specs.declared.fault.Fault.TheVariants as faults
 use Rattle.drt_outcome.specs.declared.stop.Stop.{Stop}
 use Rattle.drt_outcome.specs.declared.stop.Stop.TheVariants.{Words, Read, Write, Memory, Refused}
 use Rattle.drt_outcome.specs.Stops.{outcome_of}
@@ -52,13 +50,3 @@ module _ (r : Rules) (laws : AreLawful r) (left : Option (List ℕ)) (R W : Type
 
   pub unread : (stop : Stop) → IsReadCause R r.input left stop → IsRun r left R W old new (outcome_of stop)
   unread stop h = stopped r laws left R W old new stop (cause_of stop h) (λ e. absurd (not_write stop h e))
-
--- what was made has a status below 4, and a failed write 7
-pub not_written : (r : Rules) → AreLawful r → (bytes : List ℕ) (made : Result Report Unmade) (old new : Option (List ℕ)) (W A : Type 0) (o : Outcome) → HasEnded made old new W o
-    → IfOk made (r.makes bytes) → IfErr made (λ e. A) → 4 ≤ o.status → o.status ≢ 7 → A
-not_written r laws bytes (Err e) old new W A o h ok kept four other = kept
-not_written r laws bytes (Ok m) old new W A o (inl (grows, e)) ok kept four other =
-    let low = laws.low bytes m ok in
-    let is = ap (λ (x : Outcome). x.status) e in
-    absurd (omega (arith, low, four, is))
-not_written r laws bytes (Ok m) old new W A o (inr (failed, prefix, e)) ok kept four other = absurd (other (ap (λ (x : Outcome). x.status) e))

@@ -1,7 +1,10 @@
-//! A command whose text is made by workers.
+//! What a command promises.
+ghost use Rattle.std.specs.Prelude.{◌≡◌};
 ghost use Rattle.drt_command.specs.Rules.{AreLawful, Rules};
 
-/// A command whose text is made outside of this crate.
+use crate::input::Input;
+
+/// A command, with the words that it was given.
 pub trait Promised {
     /// What is promised of it.
     ghost rules: { Self → Rules };
@@ -9,4 +12,8 @@ pub trait Promised {
     /// The promises agree with one another. It does nothing.
     fn laws(&self)
         ensures { AreLawful (rules self.now) };
+
+    /// What it reads.
+    fn input(&self) -> Input
+        ensures { result ≡ (rules self.now).input };
 }

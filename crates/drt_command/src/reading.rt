@@ -11,7 +11,11 @@ use drt_outcome::Stop;
 use std::alloc::Global;
 
 /// The whole input. Where it can't be had the run stops: a read failed, it is too long, or no memory was to be had.
-pub fn read_input<S: Source>(alloc: Global, input: Input, source: &mut S) -> Result<Row<u8>, Stop>
+pub(crate) fn read_input<S: Source>(
+    alloc: Global,
+    input: Input,
+    source: &mut S,
+) -> Result<Row<u8>, Stop>
     ensures is { IfOk result (IsInput input (S.left source.old)) }
     ensures within { IfOk result (IsInputWithin input) }
     ensures stops { IfErr result (IsReadCause (Rose (S.faults source.old) (S.faults source.new)) input (S.left source.old)) }

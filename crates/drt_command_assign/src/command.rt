@@ -1,12 +1,10 @@
 //! `assign`: priorities that make a set schedulable under fixed priorities.
-ghost use Rattle.std.specs.Prelude.{◌≡◌, ◌≢◌, ◌≤◌, ℕ, IfErr, IfOk, map};
+ghost use Rattle.std.specs.Prelude.{◌≡◌, ℕ, IfErr, IfOk, map};
 ghost use Rattle.drt_model.specs.Contents.{Contents};
 ghost use Rattle.drt_model.specs.Digraph.{digraph_of};
-ghost use Rattle.drt_io.specs.Causes.{Rose};
 ghost use Rattle.drt_command.specs.declared.input.Input.{Input};
 ghost use Rattle.drt_command.specs.Inputs.{IsInputWithin};
 ghost use Rattle.drt_command.specs.Rules.{IsUnmadeCause};
-ghost use Rattle.drt_command.specs.Runs.{IsRun};
 ghost use Rattle.drt_model.specs.declared.jobs.Policy.TheVariants.{Fixed};
 ghost use Rattle.drt_assign.specs.Assign.{IsAssigned};
 ghost use Rattle.drt_claims.specs.Ranges.{IsEvidenceInRange};
@@ -23,15 +21,13 @@ use crate::text::print_stuck;
 use drt_accepted::Accepted;
 use drt_assign::{AssignAnswer, Stuck, assign, budgets_suffice_for_assign};
 use drt_claims::{Dossier, Evidence};
-use drt_command::{Promised, Report, Unmade, finish, read_input, stop_reading};
+use drt_command::{Input, Promised, Report, Unmade};
 use drt_command_files::{file_input, make_report, read_set};
 use drt_crew::Crew;
 use drt_effort::Effort;
 use drt_file::laws::texts_read_as_one_set;
 use drt_graph::Graphs;
-use drt_io::{Sink, Source};
 use drt_model::{Policy, Row, TaskSet};
-use drt_outcome::Outcome;
 use drt_outcome::outcome::{NO, Trail};
 use drt_pool::Gate;
 use drt_priorities::priorities_keep_limits;
@@ -53,50 +49,23 @@ impl Promised for Assign {
         texts_read_as_one_set();
         budgets_suffice_for_assign();
     }
-}
 
-/// Runs `assign`: its input is read, workers make its text, and it is written.
-pub fn conduct<S: Source, K: Sink, G: Gate, R: Threads + Wait + Sync>(
-    rt: &R,
-    alloc: Global,
-    command: &Assign,
-    source: &mut S,
-    sink: &mut K,
-    gate: &G,
-) -> Outcome
-    ensures run { IsRun (assign_rules command.now.effort.budget) (S.left source.old) (Rose (S.faults source.old) (S.faults source.new)) (Rose (K.faults sink.old) (K.faults sink.new)) (K.held sink.old) (K.held sink.new) result }
-    ensures unwritten { 4 ≤ result.status → result.status ≢ 7 → sink.new ≡ sink.old }
-    ensures unread { (assign_rules command.now.effort.budget).input ≡ Input.Nothing → source.new ≡ source.old }
-{
-    match read_input(alloc, file_input(), source) {
-        Ok(bytes) => {
-            let made = make(rt, alloc, command, bytes.as_slice(), gate);
-            finish(command, bytes.as_slice(), made, sink)
-        }
-        Err(stop) => stop_reading(command, stop),
+    fn input(&self) -> Input {
+        file_input()
     }
 }
 
-// What it makes of its input.
-fn make<G: Gate, R: Threads + Wait + Sync>(
-    rt: &R,
-    alloc: Global,
-    command: &Assign,
+/// What it makes of its input, with the effort of the crew.
+pub fn make<G: Gate, R: Threads + Wait + Sync>(
+    crew: &Crew<'_, G, R>,
     bytes: &[u8],
-    gate: &G,
 ) -> Result<Report, Unmade>
-    requires { IsInputWithin (assign_rules command.now.effort.budget).input bytes.now }
-    ensures makes { IfOk result ((assign_rules command.now.effort.budget).makes bytes.now) }
-    ensures unmade { IfErr result (IsUnmadeCause (assign_rules command.now.effort.budget).refuses bytes.now) }
+    requires { IsInputWithin (assign_rules crew.now.effort.budget).input bytes.now }
+    ensures makes { IfOk result ((assign_rules crew.now.effort.budget).makes bytes.now) }
+    ensures unmade { IfErr result (IsUnmadeCause (assign_rules crew.now.effort.budget).refuses bytes.now) }
 {
-    let (set, graphs) = read_set(alloc, bytes)?;
-    let crew = Crew {
-        rt,
-        alloc,
-        effort: command.effort,
-        gate,
-    };
-    answer(&crew, bytes, &set, &graphs)
+    let (set, graphs) = read_set(crew.alloc, bytes)?;
+    answer(crew, bytes, &set, &graphs)
 }
 
 // The answer to an accepted set.

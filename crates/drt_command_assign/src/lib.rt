@@ -6,4 +6,4 @@
 mod command;
 mod text;
 
-pub use command::{Assign, conduct};
+pub use command::{Assign, make};

@@ -1,5 +1,5 @@
 //! `bench`: both answers to the drawn set of a number, in one line.
-ghost use Rattle.std.specs.Prelude.{◌≡◌, ◌≢◌, ◌≤◌, [], IfErr, IfOk, length, map};
+ghost use Rattle.std.specs.Prelude.{◌≡◌, ◌≢◌, [], IfErr, IfOk, length, map};
 ghost use Rattle.drt_model.specs.Constrained.{AreConstrained};
 ghost use Rattle.drt_model.specs.Limits.{IsTaskSet};
 ghost use Rattle.drt_claims.specs.Claims.{graphs_of};
@@ -7,26 +7,22 @@ ghost use Rattle.drt_edf.specs.Plans.{AreTooFine};
 ghost use Rattle.drt_gen.specs.Generated.{generated};
 ghost use Rattle.drt_effort.specs.Efforts.{most_budget};
 ghost use Rattle.drt_summary.specs.declared.summary.EdfVerdict.{EdfVerdict};
-ghost use Rattle.drt_io.specs.Causes.{Rose};
 ghost use Rattle.drt_command.specs.declared.input.Input.{Input};
 ghost use Rattle.drt_command.specs.Inputs.{IsInputWithin};
 ghost use Rattle.drt_command.specs.Rules.{IsUnmadeCause};
-ghost use Rattle.drt_command.specs.Runs.{IsRun};
 ghost use Rattle.drt_command_bench.specs.Bench.{AreCounts, Benches, EdfSays, FixedSays, bench_rules};
 
 use crate::laws::scales_are_small;
 use drt_accepted::Accepted;
 use drt_claims::Evidence;
-use drt_command::{Input, Promised, Report, Unmade, finish, read_input, stop_reading};
+use drt_command::{Input, Promised, Report, Unmade};
 use drt_crew::Crew;
 use drt_edf::{EdfAnswer, EdfTrail, analyse_edf};
 use drt_effort::{Effort, MOST_BUDGET};
 use drt_gen::{deadlines_are_constrained, generate, sets_keep_limits};
 use drt_graph::{FrontEntry, GraphError, Graphs, check};
 use drt_horizon::Beyond;
-use drt_io::{Sink, Source};
 use drt_model::{Memory, Row, TaskSet};
-use drt_outcome::Outcome;
 use drt_outcome::outcome::{Trail, YES};
 use drt_pool::Gate;
 use drt_sp::{Answer, FixedTrail, analyse_fixed};
@@ -47,32 +43,14 @@ impl Promised for Bench {
     ghost rules = { λ c. bench_rules c.number };
 
     fn laws(&self) {}
-}
 
-/// Runs `bench`: its input is read, workers make its text, and it is written.
-pub fn conduct<S: Source, K: Sink, G: Gate, R: Threads + Wait + Sync>(
-    rt: &R,
-    alloc: Global,
-    command: &Bench,
-    source: &mut S,
-    sink: &mut K,
-    gate: &G,
-) -> Outcome
-    ensures run { IsRun (bench_rules command.now.number) (S.left source.old) (Rose (S.faults source.old) (S.faults source.new)) (Rose (K.faults sink.old) (K.faults sink.new)) (K.held sink.old) (K.held sink.new) result }
-    ensures unwritten { 4 ≤ result.status → result.status ≢ 7 → sink.new ≡ sink.old }
-    ensures unread { (bench_rules command.now.number).input ≡ Input.Nothing → source.new ≡ source.old }
-{
-    match read_input(alloc, Input::Nothing, source) {
-        Ok(bytes) => {
-            let made = make(rt, alloc, command, bytes.as_slice(), gate);
-            finish(command, bytes.as_slice(), made, sink)
-        }
-        Err(stop) => stop_reading(command, stop),
+    fn input(&self) -> Input {
+        Input::Nothing
     }
 }
 
-// What it makes of its input.
-fn make<G: Gate, R: Threads + Wait + Sync>(
+/// What it makes of its input.
+pub fn make<G: Gate, R: Threads + Wait + Sync>(
     rt: &R,
     alloc: Global,
     command: &Bench,

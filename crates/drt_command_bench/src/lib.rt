@@ -5,4 +5,4 @@
 mod command;
 mod laws;
 
-pub use command::{Bench, conduct};
+pub use command::{Bench, make};

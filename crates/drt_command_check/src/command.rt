@@ -5,7 +5,7 @@ ghost use Rattle.drt_command.specs.Rules.{IsUnmadeCause};
 ghost use Rattle.drt_command_check.specs.Check.{Checks, IsDossierFault, IsJudgementOf, check_rules};
 
 use drt_check::{Judgement, judged_once};
-use drt_command::{Command, Input, Report, Unmade};
+use drt_command::{Command, Input, Promised, Report, Unmade};
 use drt_evidence::{DossierError, DossierFault};
 use drt_model::Row;
 use drt_outcome::fault::{DOSSIER_TOO_LONG, Fault};
@@ -19,7 +19,7 @@ const MOST_DOSSIER_BYTES: u64 = 1_073_741_824;
 #[derive(Debug, Drop)]
 pub struct Check;
 
-impl Command for Check {
+impl Promised for Check {
     ghost rules = { λ _. check_rules };
 
     fn laws(&self) {
@@ -35,7 +35,9 @@ impl Command for Check {
             },
         }
     }
+}
 
+impl Command for Check {
     fn make(&self, alloc: Global, bytes: &[u8]) -> Result<Report, Unmade> {
         let judgement = judge(alloc, bytes)?;
         make_report(alloc, bytes, judgement)

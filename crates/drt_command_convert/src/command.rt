@@ -1,6 +1,5 @@
 //! `convert`: a classic file as a task file.
 ghost use Rattle.std.specs.Prelude.{◌≡◌, ◌≤◌, IfErr, IfOk, length};
-ghost use Rattle.drt_classic.specs.ClassicReading.{ReadsClassic};
 ghost use Rattle.drt_command.specs.Rules.{IsUnmadeCause};
 ghost use Rattle.drt_command_convert.specs.Convert.{Converts, IsClassicFault, convert_rules};
 ghost use Rattle.drt_command_convert.specs.Verdict.{IsClassicFile};
@@ -8,7 +7,7 @@ ghost use Rattle.drt_command_files.specs.TaskFiles.{most_bytes};
 
 use drt_classic::laws::digraphs_keep_limits;
 use drt_classic::{ClassicError, ClassicFault, ClassicSet, to_digraphs};
-use drt_command::{Command, Input, Report, Unmade};
+use drt_command::{Command, Input, Promised, Report, Unmade};
 use drt_command_files::file_input;
 use drt_file::laws::canonical_texts_read;
 use drt_outcome::fault::Fault;
@@ -19,7 +18,7 @@ use std::alloc::Global;
 #[derive(Debug, Drop)]
 pub struct Convert;
 
-impl Command for Convert {
+impl Promised for Convert {
     ghost rules = { λ _. convert_rules };
 
     fn laws(&self) {}
@@ -27,7 +26,9 @@ impl Command for Convert {
     fn input(&self) -> Input {
         file_input()
     }
+}
 
+impl Command for Convert {
     fn make(&self, alloc: Global, bytes: &[u8]) -> Result<Report, Unmade> {
         let set = read_classic(alloc, bytes)?;
         print(alloc, bytes, set)

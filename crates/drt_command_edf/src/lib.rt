@@ -4,4 +4,4 @@
 
 mod command;
 
-pub use command::{Edf, code_of, conduct, make_trail};
+pub use command::{Edf, code_of, make, make_trail};

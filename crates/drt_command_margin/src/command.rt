@@ -1,13 +1,10 @@
 //! `margin`: how much the execution time of a vertex can grow.
-ghost use Rattle.std.specs.Prelude.{◌≡◌, ◌≢◌, ◌≤◌, ℕ, IfErr, IfOk, MatchOption};
-ghost use Rattle.drt_io.specs.Causes.{Rose};
+ghost use Rattle.std.specs.Prelude.{◌≡◌, ℕ, IfErr, IfOk, MatchOption};
 ghost use Rattle.drt_command.specs.declared.input.Input.{Input};
 ghost use Rattle.drt_command.specs.Inputs.{IsInputWithin};
 ghost use Rattle.drt_command.specs.Rules.{IsUnmadeCause};
-ghost use Rattle.drt_command.specs.Runs.{IsRun};
 ghost use Rattle.drt_command_files.specs.Spots.{NamesNone};
 ghost use Rattle.drt_command_files.specs.TaskFiles.{IsAccepted};
-ghost use Rattle.drt_model.specs.Limits.{IsTaskSet};
 ghost use Rattle.drt_margin.specs.Answers.{IsMarginAnswer};
 ghost use Rattle.drt_margin.specs.Margin.{IsVertexOf};
 ghost use Rattle.drt_command_margin.specs.Besides.{IsReportOf, margin_trail};
@@ -16,16 +13,14 @@ ghost use Rattle.drt_command_margin.specs.Steps.{IsProbeCause, IsSpotOf};
 
 use crate::text::print_margin;
 use drt_claims::Evidence;
-use drt_command::{Promised, Report, Unmade, finish, read_input, stop_reading};
+use drt_command::{Input, Promised, Report, Unmade};
 use drt_command_files::{file_input, make_report, read_set, spot_of};
 use drt_crew::Crew;
 use drt_effort::Effort;
 use drt_file::laws::texts_read_as_one_set;
 use drt_horizon::Beyond;
-use drt_io::{Sink, Source};
 use drt_margin::{MarginAnswer, MarginTrail, Question, margin, with_more};
 use drt_model::{Policy, Row, TaskSet};
-use drt_outcome::Outcome;
 use drt_outcome::fault::{Fault, NO_SUCH_VERTEX};
 use drt_outcome::outcome::{Trail, YES};
 use drt_pool::Gate;
@@ -48,54 +43,25 @@ impl Promised for Margin {
     fn laws(&self) {
         texts_read_as_one_set();
     }
-}
 
-/// Runs `margin`: its input is read, workers make its text, and it is written.
-pub fn conduct<S: Source, K: Sink, G: Gate, R: Threads + Wait + Sync>(
-    rt: &R,
-    alloc: Global,
-    command: &Margin,
-    source: &mut S,
-    sink: &mut K,
-    gate: &G,
-) -> Outcome
-    ensures run { IsRun (margin_rules command.now.fixed command.now.task command.now.vertex command.now.effort.budget) (S.left source.old)
-        (Rose (S.faults source.old) (S.faults source.new)) (Rose (K.faults sink.old) (K.faults sink.new)) (K.held sink.old) (K.held sink.new) result }
-    ensures unwritten { 4 ≤ result.status → result.status ≢ 7 → sink.new ≡ sink.old }
-    ensures unread { (margin_rules command.now.fixed command.now.task command.now.vertex command.now.effort.budget).input ≡ Input.Nothing → source.new ≡ source.old }
-{
-    match read_input(alloc, file_input(), source) {
-        Ok(bytes) => {
-            let made = make(rt, alloc, command, bytes.as_slice(), gate);
-            finish(command, bytes.as_slice(), made, sink)
-        }
-        Err(stop) => stop_reading(command, stop),
+    fn input(&self) -> Input {
+        file_input()
     }
 }
 
-// What it makes of its input.
-fn make<G: Gate, R: Threads + Wait + Sync>(
-    rt: &R,
-    alloc: Global,
+/// What it makes of its input, with the effort of the crew.
+pub fn make<G: Gate, R: Threads + Wait + Sync>(
+    crew: &Crew<'_, G, R>,
     command: &Margin,
     bytes: &[u8],
-    gate: &G,
 ) -> Result<Report, Unmade>
-    requires { IsInputWithin (margin_rules command.now.fixed command.now.task command.now.vertex command.now.effort.budget).input bytes.now }
-    ensures makes { IfOk result ((margin_rules command.now.fixed command.now.task command.now.vertex command.now.effort.budget).makes bytes.now) }
-    ensures unmade { IfErr result (IsUnmadeCause (margin_rules command.now.fixed command.now.task command.now.vertex command.now.effort.budget).refuses bytes.now) }
+    requires { IsInputWithin (margin_rules command.now.fixed command.now.task command.now.vertex crew.now.effort.budget).input bytes.now }
+    ensures makes { IfOk result ((margin_rules command.now.fixed command.now.task command.now.vertex crew.now.effort.budget).makes bytes.now) }
+    ensures unmade { IfErr result (IsUnmadeCause (margin_rules command.now.fixed command.now.task command.now.vertex crew.now.effort.budget).refuses bytes.now) }
 {
-    let (set, _graphs) = read_set(alloc, bytes)?;
+    let (set, _graphs) = read_set(crew.alloc, bytes)?;
     match spot_in(&set, command) {
-        Some(spot) => {
-            let crew = Crew {
-                rt,
-                alloc,
-                effort: command.effort,
-                gate,
-            };
-            answer(&crew, command, bytes, set, spot)
-        }
+        Some(spot) => answer(crew, command, bytes, set, spot),
         None => Err(Unmade::Refused(Fault::Limit {
             code: NO_SUCH_VERTEX,
         })),

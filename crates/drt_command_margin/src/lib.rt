@@ -6,4 +6,4 @@
 mod command;
 mod text;
 
-pub use command::{Margin, conduct};
+pub use command::{Margin, make};

@@ -4,4 +4,4 @@
 
 mod command;
 
-pub use command::{Responses, conduct};
+pub use command::{Responses, make};

@@ -4,4 +4,4 @@
 
 mod command;
 
-pub use command::{Sp, conduct, make_trail};
+pub use command::{Sp, make, make_trail};

@@ -9,7 +9,7 @@ ghost use Rattle.drt_command_timeline.specs.Timeline.{DrawsNo, IsJudgedDossier, 
 use crate::drawing::draw;
 use drt_check::{Judgement, judged_once};
 use drt_claims::{Dossier, Evidence};
-use drt_command::{Command, Input, Report, Unmade};
+use drt_command::{Command, Input, Promised, Report, Unmade};
 use drt_evidence::{DossierError, DossierFault};
 use drt_model::Release;
 use drt_outcome::fault::{DOSSIER_TOO_LONG, Fault};
@@ -28,7 +28,7 @@ pub struct Timeline {
     pub svg: bool,
 }
 
-impl Command for Timeline {
+impl Promised for Timeline {
     ghost rules = { λ t. timeline_rules t.svg };
 
     fn laws(&self) {
@@ -44,7 +44,9 @@ impl Command for Timeline {
             },
         }
     }
+}
 
+impl Command for Timeline {
     fn make(&self, alloc: Global, bytes: &[u8]) -> Result<Report, Unmade> {
         let (dossier, judgement) = judge(alloc, bytes)?;
         draw_no(alloc, bytes, self.svg, &dossier, judgement)

@@ -2,7 +2,7 @@
 ghost use Rattle.std.specs.Prelude.{◌≡◌, ◌≤◌, ◌⊎◌, List, IfErr, IfOk, length};
 ghost use Rattle.drt_model.specs.Numbers.{most_text};
 ghost use Rattle.drt_command.specs.Rules.{IsUnmadeCause};
-ghost use Rattle.drt_command_files.specs.TaskFiles.{IsAccepted, IsFileFault, most_bytes};
+ghost use Rattle.drt_command_files.specs.TaskFiles.{IsAccepted, IsFileFault};
 ghost use Rattle.drt_responses.specs.Ranges.{AreResponsesInRange, IsInRangeResponse};
 ghost use Rattle.drt_responses.specs.Reading.{IsResponsesText};
 ghost use Rattle.drt_responses.specs.declared.response.Response.{Response};
@@ -15,7 +15,7 @@ use crate::drawing::draw;
 use crate::inputs::cut_at;
 use crate::no::MOST_BYTES;
 use crate::reached::{is_reached, response_of};
-use drt_command::{Command, Input, Report, Unmade};
+use drt_command::{Command, Input, Promised, Report, Unmade};
 use drt_command_files::{read_set, spot_of};
 use drt_file::laws::texts_read_as_one_set;
 use drt_model::{Policy, Row, TaskSet};
@@ -41,7 +41,7 @@ pub struct ResponseTimeline {
     pub vertex: Row<u8>,
 }
 
-impl Command for ResponseTimeline {
+impl Promised for ResponseTimeline {
     ghost rules = { λ t. response_timeline_rules t.svg t.task t.vertex };
 
     fn laws(&self) {
@@ -57,7 +57,9 @@ impl Command for ResponseTimeline {
             },
         }
     }
+}
 
+impl Command for ResponseTimeline {
     fn make(&self, alloc: Global, bytes: &[u8]) -> Result<Report, Unmade> {
         make_response(alloc, bytes, self)
     }

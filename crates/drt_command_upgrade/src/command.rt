@@ -3,7 +3,7 @@ ghost use Rattle.std.specs.Prelude.{◌≡◌, IfErr, IfOk};
 ghost use Rattle.drt_command_upgrade.specs.Upgrade.{Upgrades, upgrade_rules};
 ghost use Rattle.drt_command_files.specs.TaskFiles.{IsAccepted};
 
-use drt_command::{Command, Input, Report, Unmade};
+use drt_command::{Command, Input, Promised, Report, Unmade};
 use drt_command_files::{file_input, read_set};
 use drt_file::laws::texts_read_as_one_set;
 use drt_file::upgrade;
@@ -15,7 +15,7 @@ use std::alloc::Global;
 #[derive(Debug, Drop)]
 pub struct Upgrade;
 
-impl Command for Upgrade {
+impl Promised for Upgrade {
     ghost rules = { λ _. upgrade_rules };
 
     fn laws(&self) {
@@ -25,7 +25,9 @@ impl Command for Upgrade {
     fn input(&self) -> Input {
         file_input()
     }
+}
 
+impl Command for Upgrade {
     fn make(&self, alloc: Global, bytes: &[u8]) -> Result<Report, Unmade> {
         let (set, _graphs) = read_set(alloc, bytes)?;
         print(alloc, bytes, set)

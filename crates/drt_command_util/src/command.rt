@@ -8,7 +8,7 @@ ghost use Rattle.drt_command.specs.Rules.{IsUnmadeCause};
 ghost use Rattle.drt_command_util.specs.Util.{IsTooFineSet, IsTooFineFile, IsUtilisationText, Utilises, fraction_line, fraction_lines, util_lines, util_rules};
 ghost use Rattle.drt_command_files.specs.TaskFiles.{IsAccepted};
 
-use drt_command::{Command, Input, Report, Unmade};
+use drt_command::{Command, Input, Promised, Report, Unmade};
 use drt_command_files::{file_input, read_set};
 use drt_file::laws::texts_read_as_one_set;
 use drt_file::push_line;
@@ -26,7 +26,7 @@ use std::alloc::Global;
 #[derive(Debug, Drop)]
 pub struct Util;
 
-impl Command for Util {
+impl Promised for Util {
     ghost rules = { λ _. util_rules };
 
     fn laws(&self) {
@@ -36,7 +36,9 @@ impl Command for Util {
     fn input(&self) -> Input {
         file_input()
     }
+}
 
+impl Command for Util {
     fn make(&self, alloc: Global, bytes: &[u8]) -> Result<Report, Unmade> {
         let (set, graphs) = read_set(alloc, bytes)?;
         print(alloc, bytes, &set, &graphs)

@@ -96,7 +96,9 @@ ratio_parts = record {
   make = λ r t. record { num = r.num; den = r.den; cycle = t.0; potentials = t.1 };
   first_is = λ c is. record { num = is.num; some = is.some; den = is.den };
   second_is = λ c is. ((is.cycle, is.cycle_counted), (is.potentials, is.potentials_counted));
-  block_is = λ c is. ap (λ t. written_line (written_ratio_line (record { num = c.num; den = c.den })) ++ (written_line (numbers_line (codes "cycle") c.cycle) ++ t)) (append-nil (written_line (potentials_line c.potentials)));
+  block_is = λ c is.
+      ap (λ t. written_line (written_ratio_line (record { num = c.num; den = c.den })) ++ (written_line (numbers_line (codes "cycle") c.cycle) ++ t))
+      (append-nil (written_line (potentials_line c.potentials)));
   made = λ c is. refl;
   make_is = λ r t f g. record { num = f.num; some = f.some; den = f.den; cycle = g.0.0; cycle_counted = g.0.1; potentials = g.1.0; potentials_counted = g.1.1 };
   make_first = λ r t f g. refl;
@@ -119,7 +121,9 @@ tree_parts = record {
       (written_both (map walk_line t.walks) (count_line (codes "pairs") (length t.pairs) ∷ map pair_line t.pairs)
       ∙ ap (λ w. w ++ written (count_line (codes "pairs") (length t.pairs) ∷ map pair_line t.pairs)) (written_map walk_line t.walks)
       ∙ ap (λ w. flat_map (λ x. written_line (walk_line x)) t.walks ++ (written_line (count_line (codes "pairs") (length t.pairs)) ++ w)) (written_map pair_line t.pairs))
-      ∙ sym (append_assoc (written_line (count_line (codes "tree") (length t.walks))) (flat_map (λ x. written_line (walk_line x)) t.walks) (count_and_blocks (codes "pairs") (λ p. written_line (pair_line p)) t.pairs));
+      ∙ sym
+      (append_assoc (written_line (count_line (codes "tree") (length t.walks))) (flat_map (λ x. written_line (walk_line x)) t.walks)
+      (count_and_blocks (codes "pairs") (λ p. written_line (pair_line p)) t.pairs));
   made = λ t is. refl;
   make_is = λ v w f g. record { walks = f.0; walks_counted = f.1; pairs = g.0; pairs_counted = g.1 };
   make_first = λ v w f g. refl;

@@ -106,7 +106,8 @@ miss_shape = record {
     one : (x y : Miss) → ◌≡◌ {A = ℕ × (ℕ × ℕ)} (y.task, (y.index, y.deadline)) (x.task, (x.index, x.deadline)) → y ≡ x
     one x y e = ap build e
 
-pub release_shape : IsShape (codes "release") (pair_form decimal (pair_form decimal (pair_form decimal decimal))) (AreBoth IsNumber (AreBoth IsNumber (AreBoth IsTick IsTick))) release_line IsInRangeRelease
+pub release_shape : IsShape (codes "release") (pair_form decimal (pair_form decimal (pair_form decimal decimal)))
+    (AreBoth IsNumber (AreBoth IsNumber (AreBoth IsTick IsTick))) release_line IsInRangeRelease
     (λ (r : Release). (r.task, (r.vertex, (r.time, r.need))))
 release_shape = record {
   fields_are = λ y. refl;

@@ -18,8 +18,8 @@ abbrev pub pair : ℕ → ℕ → ℕ → Node
 pair left right count = record { children = Some (left, right); leaves = count; walk = [] }
 
 -- A job of 2 ticks with the deadline 4, below one task with the walks y of 2 ticks and x of 3 ticks.
-abbrev pub narrow : ℕ → FrontierSetting
-narrow budget = record {
+abbrev pub narrow_setting : ℕ → FrontierSetting
+narrow_setting budget = record {
   forest = record { nodes = leaf 1 ∷ leaf 0 ∷ pair 0 1 2 ∷ []; pool = (2 ∷ 2 ∷ 2 ∷ 2 ∷ 2 ∷ []) ∷ (3 ∷ 3 ∷ 3 ∷ 3 ∷ 3 ∷ []) ∷ (3 ∷ 3 ∷ 3 ∷ 3 ∷ 3 ∷ []) ∷ [] };
   roots = 2 ∷ [];
   wcet = 2;
@@ -28,8 +28,8 @@ narrow budget = record {
 }
 
 -- A job of 2 ticks with the deadline 5, below one task with the walks y, x and y y, whose second job comes 4 ticks later.
-abbrev pub wide : FrontierSetting
-wide = record {
+abbrev pub wide_setting : FrontierSetting
+wide_setting = record {
   forest = record {
     nodes = leaf 1 ∷ leaf 0 ∷ leaf 1 ∷ pair 0 1 2 ∷ pair 3 2 3 ∷ [];
     pool = (2 ∷ 2 ∷ 2 ∷ 2 ∷ 2 ∷ []) ∷ (3 ∷ 3 ∷ 3 ∷ 3 ∷ 3 ∷ []) ∷ (2 ∷ 2 ∷ 2 ∷ 2 ∷ 4 ∷ [])
@@ -42,17 +42,17 @@ wide = record {
 }
 
 -- A worker's step.
-abbrev pub by : ℕ → FrontierStep → FrontierEntry
-by w step = record { worker = w; step = step }
+abbrev pub entry_by : ℕ → FrontierStep → FrontierEntry
+entry_by w step = record { worker = w; step = step }
 
 -- The replies to some steps, one after another.
-abbrev pub replies : FrontierSetting → FrontierState → List FrontierEntry → List FrontierReply
-replies t s [] = []
-replies t s (e ∷ es) = (step_of t s e.worker e.step).reply ∷ replies t (step_of t s e.worker e.step).state es
+abbrev pub replies_along : FrontierSetting → FrontierState → List FrontierEntry → List FrontierReply
+replies_along t s [] = []
+replies_along t s (e ∷ es) = (step_of t s e.worker e.step).reply ∷ replies_along t (step_of t s e.worker e.step).state es
 
 -- The steps of one worker on the narrow forest: its combination is split, the left part passes, and the right one fails.
 abbrev pub steps_of_narrow : List FrontierEntry
-steps_of_narrow = by 0 Take ∷ by 0 (Split 0 0) ∷ by 0 Take ∷ by 0 (Pass 1 4) ∷ by 0 Take ∷ by 0 (Fail 2) ∷ by 0 Take ∷ []
+steps_of_narrow = entry_by 0 Take ∷ entry_by 0 (Split 0 0) ∷ entry_by 0 Take ∷ entry_by 0 (Pass 1 4) ∷ entry_by 0 Take ∷ entry_by 0 (Fail 2) ∷ entry_by 0 Take ∷ []
 
 -- What they are answered.
 abbrev pub replies_to_narrow : List FrontierReply
@@ -60,7 +60,7 @@ replies_to_narrow = Taken 0 ∷ Halved 1 2 ∷ Taken 1 ∷ Passed ∷ Taken 2 �
 
 -- The steps of three workers on the wide forest.
 abbrev pub steps_of_wide : List FrontierEntry
-steps_of_wide = by 0 Take ∷ by 1 Take ∷ by 0 (Split 0 0) ∷ by 0 Take ∷ by 1 Take ∷ by 1 (Pass 2 4) ∷ by 1 Take ∷ by 0 (Pass 1 5) ∷ by 2 Take ∷ []
+steps_of_wide = entry_by 0 Take ∷ entry_by 1 Take ∷ entry_by 0 (Split 0 0) ∷ entry_by 0 Take ∷ entry_by 1 Take ∷ entry_by 1 (Pass 2 4) ∷ entry_by 1 Take ∷ entry_by 0 (Pass 1 5) ∷ entry_by 2 Take ∷ []
 
 -- What they are answered.
 abbrev pub replies_to_wide : List FrontierReply

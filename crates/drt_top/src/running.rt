@@ -2,14 +2,20 @@
 ghost use Rattle.std.specs.Prelude.{◌≡◌, ◌≢◌, ◌<◌, ◌≤◌, ◌⊎◌, None, Some, map, string_bytes};
 ghost use Rattle.drt_io.specs.Causes.{Rose};
 ghost use Rattle.drt_command.specs.declared.input.Input.{Input};
-ghost use Rattle.drt_command.specs.Inputs.{AtInput};
+ghost use Rattle.drt_command.specs.Inputs.{AtInput, IsInputWithin};
 ghost use Rattle.drt_command.specs.Runs.{IsCompleteRun, IsCutShort, IsRun, Writes};
+ghost use Rattle.drt_command_assign.specs.Assign.{assign_rules};
+ghost use Rattle.drt_command_bench.specs.Bench.{bench_rules};
+ghost use Rattle.drt_command_edf.specs.Edf.{edf_rules};
+ghost use Rattle.drt_command_margin.specs.Margin.{margin_rules};
+ghost use Rattle.drt_command_response.specs.Response.{response_rules};
+ghost use Rattle.drt_command_sp.specs.Sp.{sp_rules};
 ghost use Rattle.drt_outcome.specs.Stops.{IsRefusalStatus, IsStatus, fault_status};
 ghost use Rattle.drt_words.specs.declared.meaning.Meaning.{Meaning};
 ghost use Rattle.drt_words.specs.Meaning.{meaning_of};
 ghost use Rattle.drt_top.specs.commands.{rules_of};
 
-use drt_command::conduct;
+use drt_command::{Report, Unmade, conduct, conduct_by};
 use drt_command_assign::{self as assign, Assign};
 use drt_command_bench::{self as bench, Bench};
 use drt_command_check::Check;
@@ -21,6 +27,7 @@ use drt_command_sp::{self as sp, Sp};
 use drt_command_timeline::{ResponseTimeline, Timeline};
 use drt_command_upgrade::Upgrade;
 use drt_command_util::Util;
+use drt_crew::Crew;
 use drt_io::{Sink, Source};
 use drt_model::Row;
 use drt_outcome::{Fault, Outcome, Stop, Trail, outcome_of};
@@ -101,21 +108,64 @@ fn dispatch<S: Source, K: Sink, G: Gate, R: Threads + Wait + Sync>(
     ensures unread { (rules_of meaning).input ≡ Input.Nothing → source.new ≡ source.old }
 {
     match meaning {
-        Meaning::Edf { effort } => edf::conduct(rt, alloc, &Edf { effort }, source, sink, gate),
-        Meaning::Sp { effort } => sp::conduct(rt, alloc, &Sp { effort }, source, sink, gate),
+        Meaning::Edf { effort } => {
+            let crew = Crew {
+                rt,
+                alloc,
+                effort,
+                gate,
+            };
+            let make = |bytes: &[u8]| -> Result<Report, Unmade>
+                requires { IsInputWithin (edf_rules crew.effort.budget).input bytes.now }
+            { edf::make(&crew, bytes) };
+            conduct_by(alloc, &Edf { effort }, source, sink, make)
+        }
+        Meaning::Sp { effort } => {
+            let crew = Crew {
+                rt,
+                alloc,
+                effort,
+                gate,
+            };
+            let make = |bytes: &[u8]| -> Result<Report, Unmade>
+                requires { IsInputWithin (sp_rules crew.effort.budget).input bytes.now }
+            { sp::make(&crew, bytes) };
+            conduct_by(alloc, &Sp { effort }, source, sink, make)
+        }
         Meaning::Upgrade => conduct(alloc, &Upgrade, source, sink),
         Meaning::Util => conduct(alloc, &Util, source, sink),
         Meaning::Check => conduct(alloc, &Check, source, sink),
         Meaning::Bench { workers, number } => {
             let command = Bench { workers, number };
-            bench::conduct(rt, alloc, &command, source, sink, gate)
+            let make = |bytes: &[u8]| -> Result<Report, Unmade>
+                requires { IsInputWithin (bench_rules command.number).input bytes.now }
+            { bench::make(rt, alloc, &command, bytes, gate) };
+            conduct_by(alloc, &command, source, sink, make)
         }
         Meaning::Response { effort } => {
-            response::conduct(rt, alloc, &Responses { effort }, source, sink, gate)
+            let crew = Crew {
+                rt,
+                alloc,
+                effort,
+                gate,
+            };
+            let make = |bytes: &[u8]| -> Result<Report, Unmade>
+                requires { IsInputWithin (response_rules crew.effort.budget).input bytes.now }
+            { response::make(&crew, bytes) };
+            conduct_by(alloc, &Responses { effort }, source, sink, make)
         }
         Meaning::Convert => conduct(alloc, &Convert, source, sink),
         Meaning::Assign { effort } => {
-            assign::conduct(rt, alloc, &Assign { effort }, source, sink, gate)
+            let crew = Crew {
+                rt,
+                alloc,
+                effort,
+                gate,
+            };
+            let make = |bytes: &[u8]| -> Result<Report, Unmade>
+                requires { IsInputWithin (assign_rules crew.effort.budget).input bytes.now }
+            { assign::make(&crew, bytes) };
+            conduct_by(alloc, &Assign { effort }, source, sink, make)
         }
         Meaning::Margin {
             fixed,
@@ -129,7 +179,16 @@ fn dispatch<S: Source, K: Sink, G: Gate, R: Threads + Wait + Sync>(
                 vertex: Row::from_vec(vertex.into_vec()),
                 effort,
             };
-            margin::conduct(rt, alloc, &command, source, sink, gate)
+            let crew = Crew {
+                rt,
+                alloc,
+                effort,
+                gate,
+            };
+            let make = |bytes: &[u8]| -> Result<Report, Unmade>
+                requires { IsInputWithin (margin_rules command.fixed command.task command.vertex crew.effort.budget).input bytes.now }
+            { margin::make(&crew, &command, bytes) };
+            conduct_by(alloc, &command, source, sink, make)
         }
         Meaning::Timeline { svg, vertex } => match vertex {
             None => conduct(alloc, &Timeline { svg }, source, sink),

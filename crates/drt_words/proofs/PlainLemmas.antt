@@ -1,5 +1,5 @@
 -- What the command says of plain lists.
-use Rattle.std.proofs.Common.{◌≡◌, ◌<◌, ◌≤◌, ◌^◌, ◌==◌, ◌++◌, ℕ, List, [], ◌∷◌, Some, false, true, codes, refl, arith, ap, append-nil, fold, length, lt-ltb, lit<, lit≤}
+use Rattle.std.proofs.Common.{◌≡◌, ◌<◌, ◌≤◌, ◌^◌, ◌==◌, ◌++◌, ℕ, List, [], ◌∷◌, Some, false, true, codes, refl, inl, inr, arith, ap, append-nil, fold, length, lt-ltb, lit<, lit≤}
 use Rattle.std.proofs.lemmas.Bool.{le-leb}
 use Rattle.std.specs.Str.Parse.{digits_value, without_leading_plus}
 use Rattle.clap.proofs.OnLiterals.{clap_on_literals}
@@ -10,7 +10,7 @@ use Rattle.drt_words.specs.Number.{whole_in}
 use Rattle.drt_effort.specs.Efforts.{most_workers}
 use Rattle.drt_words.specs.Meaning.{meaning_at, meaning_of, effort_at}
 use Rattle.drt_words.specs.Plain.{BeginsPlain, PlainOptions, neither, workers, budget, workers_first, budget_first}
-use Rattle.drt_words.specs.Plain.{IsPlain, plain_searcher, Searcher, for_edf, for_sp, for_response, for_assign, searcher_word, searcher_meaning}
+use Rattle.drt_words.specs.Plain.{IsPlain, IsPlainAnswer, IsPlainMargin, IsPlainTool, plain_searcher, Searcher, for_edf, for_sp, for_response, for_assign, searcher_word, searcher_meaning}
 use Rattle.drt_words.specs.Plain.{plain_upgrade, plain_util, plain_check, plain_bench, plain_convert, plain_timeline, plain_timeline_back, IsPlainWhole, PlainWorkers, standard, given}
 use Rattle.drt_words.specs.Plain.{plain_margin, plain_margin_back}
 use Rattle.drt_words.proofs.NumberLemmas.{digits_pass}
@@ -127,14 +127,23 @@ number_means options text m n (given words a l p s) r =
     (λ g it. over_number text n r (workers_used a []) refl g it) in
     rw (below_ends bench_leaf rows (words ++ text ∷ []) ends refl) (rw (u.number, r.number) refl)
 
+answer_means : (words : List (List ℕ)) (meaning : Meaning) → IsPlainAnswer words meaning → meaning_of words ≡ Some meaning
+answer_means words meaning (plain_searcher program command options m n o) = rw (search_means command program options) (options_mean command options m n o)
+answer_means words meaning (plain_check program) = check_means program
+
+named_means : (words : List (List ℕ)) (meaning : Meaning) → IsPlainMargin words meaning → meaning_of words ≡ Some meaning
+named_means words meaning (plain_margin program flags options names fixed m n spot f o x) = margin_front_means flags options fixed m n f o program names spot x
+named_means words meaning (plain_margin_back program task vertex flags options fixed m n t v f o) = margin_back_means flags options fixed m n f o program task vertex t v
+
+tool_means : (words : List (List ℕ)) (meaning : Meaning) → IsPlainTool words meaning → meaning_of words ≡ Some meaning
+tool_means words meaning (plain_upgrade program) = upgrade_means program
+tool_means words meaning (plain_util program) = util_means program
+tool_means words meaning (plain_convert program) = convert_means program
+tool_means words meaning (plain_timeline program flags spots svg vertex f s) = front_means program flags spots svg vertex f s
+tool_means words meaning (plain_timeline_back program flags spots svg vertex f s) = back_means program flags spots svg vertex f s
+tool_means words meaning (plain_bench program options text m n o p) = rw (bench_means program (options ++ text ∷ [])) (number_means options text m n o (whole_of n text p))
+
 pub plain_means : (words : List (List ℕ)) (meaning : Meaning) → IsPlain words meaning → meaning_of words ≡ Some meaning
-plain_means words meaning (plain_searcher program command options m n o) = rw (search_means command program options) (options_mean command options m n o)
-plain_means words meaning (plain_upgrade program) = upgrade_means program
-plain_means words meaning (plain_util program) = util_means program
-plain_means words meaning (plain_check program) = check_means program
-plain_means words meaning (plain_convert program) = convert_means program
-plain_means words meaning (plain_timeline program flags spots svg vertex f s) = front_means program flags spots svg vertex f s
-plain_means words meaning (plain_timeline_back program flags spots svg vertex f s) = back_means program flags spots svg vertex f s
-plain_means words meaning (plain_bench program options text m n o p) = rw (bench_means program (options ++ text ∷ [])) (number_means options text m n o (whole_of n text p))
-plain_means words meaning (plain_margin program flags options names fixed m n spot f o x) = margin_front_means flags options fixed m n f o program names spot x
-plain_means words meaning (plain_margin_back program task vertex flags options fixed m n t v f o) = margin_back_means flags options fixed m n f o program task vertex t v
+plain_means words meaning (inl p) = answer_means words meaning p
+plain_means words meaning (inr (inl p)) = named_means words meaning p
+plain_means words meaning (inr (inr p)) = tool_means words meaning p

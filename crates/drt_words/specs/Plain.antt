@@ -1,5 +1,5 @@
 -- Plain lists of words, and lists that must be refused.
-use Rattle.std.specs.Prelude.{◌≡◌, ◌≢◌, ◌≤◌, ◌<◌, ◌^◌, ℕ, List, [], ◌∷◌, ◌++◌, codes, length, slice_index}
+use Rattle.std.specs.Prelude.{◌≡◌, ◌≢◌, ◌≤◌, ◌<◌, ◌^◌, ◌⊎◌, ℕ, List, [], ◌∷◌, ◌++◌, codes, length, slice_index}
 use Rattle.std.specs.Prelude.{Bool, true, false, Option, Some, None}
 use Rattle.std.specs.List.{list_any}
 use Rattle.std.specs.Str.{bytes_eq}
@@ -19,13 +19,6 @@ pub record IsPlainNumber (most : ℕ) (text : List ℕ) (n : ℕ) : Type 0 where
   pub value : digits_value 10 text ≡ n
   pub some : 1 ≤ n
   pub within : n ≤ most
-
--- The text is a number from 0 to 18,446,744,073,709,551,615 in decimal digits without leading zeros.
-pub record IsPlainWhole (text : List ℕ) (n : ℕ) : Type 0 where
-  pub digits : IsNumeral 10 text
-  pub no_leading_zero : slice_index text 0 ≡ 48 → length text ≡ 1
-  pub value : digits_value 10 text ≡ n
-  pub within : n < 2 ^ 64
 
 -- An option with its value is spelled `--name value` or `--name=value`.
 pub data Spells (name text : List ℕ) : List (List ℕ) → Type 0 where
@@ -63,10 +56,11 @@ searcher_meaning for_sp m n = Sp (record { workers = m; budget = n })
 searcher_meaning for_response m n = Response (record { workers = m; budget = n })
 searcher_meaning for_assign m n = Assign (record { workers = m; budget = n })
 
--- The option of `bench`, with the number that it gives or the default.
-pub data PlainWorkers : List (List ℕ) → ℕ → Type 0 where
-  standard : PlainWorkers [] 4
-  given : (words : List (List ℕ)) (a : List ℕ) (m : ℕ) → IsPlainNumber most_workers a m → Spells (codes "workers") a words → PlainWorkers words m
+-- A plain list of a command that answers for a set: a program name, the command, and the options of a search, each at most once and in any order.
+pub data IsPlainAnswer : List (List ℕ) → Meaning → Type 0 where
+  plain_searcher : (program : List ℕ) (command : Searcher) (options : List (List ℕ)) (m n : ℕ) → PlainOptions options m n
+      → IsPlainAnswer (program ∷ searcher_word command ∷ options) (searcher_meaning command m n)
+  plain_check : (program : List ℕ) → IsPlainAnswer (program ∷ codes "check" ∷ []) Check
 
 -- The word isn't `--` and doesn't read as a flag.
 pub record BeginsPlain (text : List ℕ) : Type 0 where
@@ -79,38 +73,53 @@ pub data PlainFlag (name : List ℕ) : List (List ℕ) → Bool → Type 0 where
   flag_absent : PlainFlag name [] false
   flag_given : PlainFlag name ((codes "--" ++ name) ∷ []) true
 
+-- The two names of `margin`. Neither reads as a flag, or they stand behind `--`, where a name may be any text.
+pub data PlainNames : List (List ℕ) → Spot → Type 0 where
+  names_alone : (task vertex : List ℕ) → BeginsPlain task → BeginsPlain vertex → PlainNames (task ∷ vertex ∷ []) (record { task = task; vertex = vertex })
+  names_behind : (task vertex : List ℕ) → PlainNames (codes "--" ∷ task ∷ vertex ∷ []) (record { task = task; vertex = vertex })
+
+-- A plain list of `margin`: its flag, the options of a search in any order, and its names behind them or before them.
+pub data IsPlainMargin : List (List ℕ) → Meaning → Type 0 where
+  plain_margin : (program : List ℕ) (flags options names : List (List ℕ)) (fixed : Bool) (m n : ℕ) (spot : Spot)
+      → PlainFlag (codes "fixed") flags fixed → PlainOptions options m n → PlainNames names spot
+      → IsPlainMargin (program ∷ codes "margin" ∷ (flags ++ (options ++ names))) (Margin fixed spot (record { workers = m; budget = n }))
+  plain_margin_back : (program task vertex : List ℕ) (flags options : List (List ℕ)) (fixed : Bool) (m n : ℕ) → BeginsPlain task → BeginsPlain vertex
+      → PlainFlag (codes "fixed") flags fixed → PlainOptions options m n
+      → IsPlainMargin (program ∷ codes "margin" ∷ task ∷ vertex ∷ (flags ++ options)) (Margin fixed (record { task = task; vertex = vertex }) (record { workers = m; budget = n }))
+
+-- The text is a number from 0 to 18,446,744,073,709,551,615 in decimal digits without leading zeros.
+pub record IsPlainWhole (text : List ℕ) (n : ℕ) : Type 0 where
+  pub digits : IsNumeral 10 text
+  pub no_leading_zero : slice_index text 0 ≡ 48 → length text ≡ 1
+  pub value : digits_value 10 text ≡ n
+  pub within : n < 2 ^ 64
+
+-- The option of `bench`, with the number that it gives or the default.
+pub data PlainWorkers : List (List ℕ) → ℕ → Type 0 where
+  standard : PlainWorkers [] 4
+  given : (words : List (List ℕ)) (a : List ℕ) (m : ℕ) → IsPlainNumber most_workers a m → Spells (codes "workers") a words → PlainWorkers words m
+
 -- The option of `timeline`, with the two names that it gives or none. Neither name reads as a flag.
 pub data PlainSpot : List (List ℕ) → Option Spot → Type 0 where
   vertex_absent : PlainSpot [] None
   vertex_given : (task vertex : List ℕ) → BeginsPlain task → BeginsPlain vertex
       → PlainSpot (codes "--vertex" ∷ task ∷ vertex ∷ []) (Some (record { task = task; vertex = vertex }))
 
--- The two names of `margin`. Neither reads as a flag, or they stand behind `--`, where a name may be any text.
-pub data PlainNames : List (List ℕ) → Spot → Type 0 where
-  names_alone : (task vertex : List ℕ) → BeginsPlain task → BeginsPlain vertex → PlainNames (task ∷ vertex ∷ []) (record { task = task; vertex = vertex })
-  names_behind : (task vertex : List ℕ) → PlainNames (codes "--" ∷ task ∷ vertex ∷ []) (record { task = task; vertex = vertex })
-
--- A plain list: a program name, a command, then that command's options, each at most once and in any order, and behind them the number of `bench`
--- or the names of `margin`. These names may also stand before the options.
-pub data IsPlain : List (List ℕ) → Meaning → Type 0 where
-  plain_searcher : (program : List ℕ) (command : Searcher) (options : List (List ℕ)) (m n : ℕ) → PlainOptions options m n
-      → IsPlain (program ∷ searcher_word command ∷ options) (searcher_meaning command m n)
-  plain_upgrade : (program : List ℕ) → IsPlain (program ∷ codes "upgrade" ∷ []) Upgrade
-  plain_util : (program : List ℕ) → IsPlain (program ∷ codes "util" ∷ []) Util
-  plain_check : (program : List ℕ) → IsPlain (program ∷ codes "check" ∷ []) Check
+-- A plain list of another command: its options, each at most once and in any order, and behind that of `bench` its number.
+pub data IsPlainTool : List (List ℕ) → Meaning → Type 0 where
+  plain_upgrade : (program : List ℕ) → IsPlainTool (program ∷ codes "upgrade" ∷ []) Upgrade
+  plain_util : (program : List ℕ) → IsPlainTool (program ∷ codes "util" ∷ []) Util
+  plain_convert : (program : List ℕ) → IsPlainTool (program ∷ codes "convert" ∷ []) Convert
   plain_bench : (program : List ℕ) (options : List (List ℕ)) (text : List ℕ) (m n : ℕ) → PlainWorkers options m → IsPlainWhole text n
-      → IsPlain (program ∷ codes "bench" ∷ (options ++ text ∷ [])) (Bench m n)
-  plain_convert : (program : List ℕ) → IsPlain (program ∷ codes "convert" ∷ []) Convert
+      → IsPlainTool (program ∷ codes "bench" ∷ (options ++ text ∷ [])) (Bench m n)
   plain_timeline : (program : List ℕ) (flags spots : List (List ℕ)) (svg : Bool) (vertex : Option Spot) → PlainFlag (codes "svg") flags svg → PlainSpot spots vertex
-      → IsPlain (program ∷ codes "timeline" ∷ (flags ++ spots)) (Timeline svg vertex)
+      → IsPlainTool (program ∷ codes "timeline" ∷ (flags ++ spots)) (Timeline svg vertex)
   plain_timeline_back : (program : List ℕ) (flags spots : List (List ℕ)) (svg : Bool) (vertex : Option Spot) → PlainFlag (codes "svg") flags svg → PlainSpot spots vertex
-      → IsPlain (program ∷ codes "timeline" ∷ (spots ++ flags)) (Timeline svg vertex)
-  plain_margin : (program : List ℕ) (flags options names : List (List ℕ)) (fixed : Bool) (m n : ℕ) (spot : Spot)
-      → PlainFlag (codes "fixed") flags fixed → PlainOptions options m n → PlainNames names spot
-      → IsPlain (program ∷ codes "margin" ∷ (flags ++ (options ++ names))) (Margin fixed spot (record { workers = m; budget = n }))
-  plain_margin_back : (program task vertex : List ℕ) (flags options : List (List ℕ)) (fixed : Bool) (m n : ℕ) → BeginsPlain task → BeginsPlain vertex
-      → PlainFlag (codes "fixed") flags fixed → PlainOptions options m n
-      → IsPlain (program ∷ codes "margin" ∷ task ∷ vertex ∷ (flags ++ options)) (Margin fixed (record { task = task; vertex = vertex }) (record { workers = m; budget = n }))
+      → IsPlainTool (program ∷ codes "timeline" ∷ (spots ++ flags)) (Timeline svg vertex)
+
+-- A plain list of any command.
+abbrev pub IsPlain : List (List ℕ) → Meaning → Type 0
+IsPlain words meaning = IsPlainAnswer words meaning ⊎ (IsPlainMargin words meaning ⊎ IsPlainTool words meaning)
 
 -- A plain list of `margin`, but with one name or none.
 pub data MissesNames : List (List ℕ) → Type 0 where

@@ -22,7 +22,7 @@ capped word = min (value word) 1000001
 
 infixl 10 ◌>>=◌
 -- What follows a step, where the step has no fault.
-abbrev pub ◌>>=◌ : {A B : Type 0} → Result A FileFault → (A → Result B FileFault) → Result B FileFault
+abbrev pub ◌>>=◌ : {A B Fault : Type 0} → Result A Fault → (A → Result B Fault) → Result B Fault
 (Ok x) >>= f = f x
 (Err e) >>= f = Err e
 

@@ -3,7 +3,7 @@ use Rattle.drt_model.specs.Digraph.{Digraph}
 use Rattle.drt_graph.specs.Graphs.{graph_of}
 use Rattle.drt_claims.specs.declared.evidence.TreeClaim.{TreeClaim}
 use Rattle.drt_claims.specs.Trees.{HasShortWalks}
-use Rattle.drt_check_tests.specs.Worked.{graph, tree}
+use Rattle.drt_check_tests.specs.Worked.{task_graph, tree}
 use Rattle.drt_check_tests.proofs.Claims.{is_short}
 use Rattle.drt_check_tests.proofs.given.are_taken.Goals as goal
 

@@ -3,4 +3,4 @@ use Rattle.drt_command_edf.proofs.EdfVerdict.{with_verdict}
 use Rattle.drt_command_edf.proofs.command.make.Goals as goal
 
 pub returns-clause-makes : goal.returns-clause-makes
-returns-clause-makes g c = with_verdict c.args.command.now.effort.budget c.args.bytes.now c.decide.result c.decide.ensures.decides
+returns-clause-makes g c = with_verdict c.args.crew.now.effort.budget c.args.bytes.now c.decide.result c.decide.ensures.decides

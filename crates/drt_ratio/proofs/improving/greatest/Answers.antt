@@ -32,11 +32,13 @@ ended c =
 
 pub returns-in_default-clause-greatest : goal.returns-in_default-clause-greatest
 returns-in_default-clause-greatest c =
-    rw (c.num-a.ensures, c.den-b.ensures.value, c.from_vec.ensures, c.from_vec-in_default.ensures) (ratio_proof _ _ _ _ _ c.improving.cycle.items _ (ended c) c.improving.ratio.lowest c.improving.invariant.has c.improving.invariant.distinct)
+    rw (c.num-a.ensures, c.den-b.ensures.value, c.from_vec.ensures, c.from_vec-in_default.ensures)
+    (ratio_proof _ _ _ _ _ c.improving.cycle.items _ (ended c) c.improving.ratio.lowest c.improving.invariant.has c.improving.invariant.distinct)
 
 pub returns-in_default-clause-keeps : goal.returns-in_default-clause-keeps
 returns-in_default-clause-keeps c =
-    rw (c.num-a.ensures, c.den-b.ensures.value, c.from_vec.ensures, c.from_vec-in_default.ensures) (rules_kept _ _ _ _ _ c.improving.cycle.items _ (ended c) c.improving.invariant.has)
+    rw (c.num-a.ensures, c.den-b.ensures.value, c.from_vec.ensures, c.from_vec-in_default.ensures)
+    (rules_kept _ _ _ _ _ c.improving.cycle.items _ (ended c) c.improving.invariant.has)
 
 pub returns-in_default-clause-reach : goal.returns-in_default-clause-reach
 returns-in_default-clause-reach c =
