@@ -28,6 +28,7 @@ use drt_command_timeline::{ResponseTimeline, Timeline};
 use drt_command_upgrade::Upgrade;
 use drt_command_util::Util;
 use drt_crew::Crew;
+use drt_effort::Effort;
 use drt_io::{Sink, Source};
 use drt_model::Row;
 use drt_outcome::{Fault, Outcome, Stop, Trail, outcome_of};
@@ -109,24 +110,14 @@ fn dispatch<S: Source, K: Sink, G: Gate, R: Threads + Wait + Sync>(
 {
     match meaning {
         Meaning::Edf { effort } => {
-            let crew = Crew {
-                rt,
-                alloc,
-                effort,
-                gate,
-            };
+            let crew = crew_of(rt, alloc, effort, gate);
             let make = |bytes: &[u8]| -> Result<Report, Unmade>
                 requires { IsInputWithin (edf_rules crew.effort.budget).input bytes.now }
             { edf::make(&crew, bytes) };
             conduct_by(alloc, &Edf { effort }, source, sink, make)
         }
         Meaning::Sp { effort } => {
-            let crew = Crew {
-                rt,
-                alloc,
-                effort,
-                gate,
-            };
+            let crew = crew_of(rt, alloc, effort, gate);
             let make = |bytes: &[u8]| -> Result<Report, Unmade>
                 requires { IsInputWithin (sp_rules crew.effort.budget).input bytes.now }
             { sp::make(&crew, bytes) };
@@ -143,12 +134,7 @@ fn dispatch<S: Source, K: Sink, G: Gate, R: Threads + Wait + Sync>(
             conduct_by(alloc, &command, source, sink, make)
         }
         Meaning::Response { effort } => {
-            let crew = Crew {
-                rt,
-                alloc,
-                effort,
-                gate,
-            };
+            let crew = crew_of(rt, alloc, effort, gate);
             let make = |bytes: &[u8]| -> Result<Report, Unmade>
                 requires { IsInputWithin (response_rules crew.effort.budget).input bytes.now }
             { response::make(&crew, bytes) };
@@ -156,12 +142,7 @@ fn dispatch<S: Source, K: Sink, G: Gate, R: Threads + Wait + Sync>(
         }
         Meaning::Convert => conduct(alloc, &Convert, source, sink),
         Meaning::Assign { effort } => {
-            let crew = Crew {
-                rt,
-                alloc,
-                effort,
-                gate,
-            };
+            let crew = crew_of(rt, alloc, effort, gate);
             let make = |bytes: &[u8]| -> Result<Report, Unmade>
                 requires { IsInputWithin (assign_rules crew.effort.budget).input bytes.now }
             { assign::make(&crew, bytes) };
@@ -179,12 +160,7 @@ fn dispatch<S: Source, K: Sink, G: Gate, R: Threads + Wait + Sync>(
                 vertex: Row::from_vec(vertex.into_vec()),
                 effort,
             };
-            let crew = Crew {
-                rt,
-                alloc,
-                effort,
-                gate,
-            };
+            let crew = crew_of(rt, alloc, effort, gate);
             let make = |bytes: &[u8]| -> Result<Report, Unmade>
                 requires { IsInputWithin (margin_rules command.fixed command.task command.vertex crew.effort.budget).input bytes.now }
             { margin::make(&crew, &command, bytes) };
@@ -202,5 +178,22 @@ fn dispatch<S: Source, K: Sink, G: Gate, R: Threads + Wait + Sync>(
                 conduct(alloc, &command, source, sink)
             }
         },
+    }
+}
+
+// Those who make the text of a command with this effort.
+fn crew_of<'a, G: Gate, R: Threads + Wait + Sync>(
+    rt: &'a R,
+    alloc: Global,
+    effort: Effort,
+    gate: &'a G,
+) -> Crew<'a, G, R>
+    ensures { result.effort ≡ effort }
+{
+    Crew {
+        rt,
+        alloc,
+        effort,
+        gate,
     }
 }
