@@ -7,6 +7,7 @@ mod BadWalks
 mod BadOptions
 mod Building
 mod Entering
+mod OptionCases
 mod Options
 mod PlainMargins
 mod PlainSearches

@@ -7,8 +7,8 @@ use Rattle.clap.specs.Faults.{turn_fault}
 use Rattle.clap.specs.Walk.{Held, Row, Text, has_row, idle, nothing_held, used, walk_from, walked, with_default}
 use Rattle.clap.specs.declared.error.kind.ErrorKind.TheVariants as kind
 use Rattle.drt_words.specs.Meaning.{meaning_at, meaning_of}
-use Rattle.drt_words.specs.Plain.{BeginsPlain, PlainFlag, flag_absent, flag_given, PlainNames, names_alone, names_behind, MissesNames, no_name, one_name}
-use Rattle.drt_words.specs.Plain.{PlainOptions, neither, workers, budget, workers_first, budget_first}
+use Rattle.drt_words.specs.Plain.{BeginsPlain, flag_words, PlainNames, names_alone, names_behind, MissesNames, no_name, one_name}
+use Rattle.drt_words.proofs.OptionCases.{OptionCases, neither, workers, budget, both_workers, both_budget, cases_of}
 use Rattle.drt_words.specs.declared.meaning.Meaning.TheVariants.{Margin}
 use Rattle.drt_words.specs.declared.meaning.Meaning.{Meaning}
 use Rattle.drt_words.specs.declared.spot.Spot.{Spot}
@@ -33,28 +33,28 @@ nothing = record { no_fault = refl; leaves = refl }
 -- ---- the walk over the flag and the options
 
 -- an argument other than the flag has no more rows than before
-free_flag : (id : Text) → bytes_eq (codes "fixed") id ≡ false → (flags : List Text) (fixed : Bool) (f : PlainFlag (codes "fixed") flags fixed) (rows : List Row)
-    → has_row id rows ≡ false → has_row id (flag_rows (codes "fixed") flags fixed f rows) ≡ false
-free_flag id differs flags fixed flag_absent rows free = free
-free_flag id differs flags fixed flag_given rows free = free_used id (codes "fixed") differs _ _ rows free
+free_flag : (id : Text) → bytes_eq (codes "fixed") id ≡ false → (fixed : Bool) (rows : List Row)
+    → has_row id rows ≡ false → has_row id (flag_rows (codes "fixed") fixed rows) ≡ false
+free_flag id differs false rows free = free
+free_flag id differs true rows free = free_used id (codes "fixed") differs _ _ rows free
 
-module _ (flags options : List Text) (fixed : Bool) (m n : ℕ) (f : PlainFlag (codes "fixed") flags fixed) (o : PlainOptions options m n) where
+module _ (options : List Text) (fixed : Bool) (m n : ℕ) (o : OptionCases options m n) where
   -- the rows with those of the flag and the options
   abbrev given_rows : List Row → List Row
-  given_rows rows = options_rows options m n o (flag_rows (codes "fixed") flags fixed f rows)
+  given_rows rows = options_rows options m n o (flag_rows (codes "fixed") fixed rows)
 
   free_given : (id : Text) → bytes_eq (codes "fixed") id ≡ false → bytes_eq (codes "workers") id ≡ false → bytes_eq (codes "budget") id ≡ false → (rows : List Row)
       → has_row id rows ≡ false → has_row id (given_rows rows) ≡ false
-  free_given id x y z rows free = free_options id y z options m n o (flag_rows (codes "fixed") flags fixed f rows) (free_flag id x flags fixed f rows free)
+  free_given id x y z rows free = free_options id y z options m n o (flag_rows (codes "fixed") fixed rows) (free_flag id x fixed rows free)
 
   -- the flag and the options, and what follows them
   after_given : (place : ℕ) (rows : List Row) → has_row (codes "fixed") rows ≡ false → has_row (codes "workers") rows ≡ false → has_row (codes "budget") rows ≡ false
       → (h : Held) → Settles margin_leaf rows h → (out : List Row) (back : List Text)
-      → ((g : Held) → Settles margin_leaf (given_rows rows) g → Ends margin_leaf out (at g idle place false) back) → Ends margin_leaf out (at h idle place false) (flags ++ (options ++ back))
+      → ((g : Held) → Settles margin_leaf (given_rows rows) g → Ends margin_leaf out (at g idle place false) back) → Ends margin_leaf out (at h idle place false) (flag_words (codes "fixed") fixed ++ (options ++ back))
   after_given place rows x y z h it out back after =
-      after_flag margin_leaf (codes "fixed") takes_fixed rows x h it place flags (options ++ back) fixed f out
-      (λ g held. after_options margin_leaf margin_workers margin_budget out place options back m n o (flag_rows (codes "fixed") flags fixed f rows)
-      (free_flag (codes "workers") refl flags fixed f rows y) (free_flag (codes "budget") refl flags fixed f rows z) g held after)
+      after_flag margin_leaf (codes "fixed") takes_fixed rows x h it place (options ++ back) fixed out
+      (λ g held. after_options margin_leaf margin_workers margin_budget out place options back m n o (flag_rows (codes "fixed") fixed rows)
+      (free_flag (codes "workers") refl fixed rows y) (free_flag (codes "budget") refl fixed rows z) g held after)
 
 -- ---- the walk over the names
 
@@ -91,34 +91,34 @@ asks fixed task vertex m n = Margin fixed (record { task = task; vertex = vertex
 
 module _ (task vertex : Text) where
   -- with the names behind the options
-  front_says : (flags options : List Text) (fixed : Bool) (m n : ℕ) (f : PlainFlag (codes "fixed") flags fixed) (o : PlainOptions options m n)
-      → Says (names_rows task vertex (given_rows flags options fixed m n f o [])) (asks fixed task vertex m n)
+  front_says : (options : List Text) (fixed : Bool) (m n : ℕ) (o : OptionCases options m n)
+      → Says (names_rows task vertex (given_rows options fixed m n o [])) (asks fixed task vertex m n)
   unfolding clap_on_literals
-  front_says flags options fixed m n flag_absent neither = record { fine = refl; means = refl }
-  front_says flags options fixed m n flag_given neither = record { fine = refl; means = refl }
-  front_says flags options fixed m n flag_absent (workers ws a l p x) = record { fine = refl; means = rw (workers_read a l p) refl }
-  front_says flags options fixed m n flag_given (workers ws a l p x) = record { fine = refl; means = rw (workers_read a l p) refl }
-  front_says flags options fixed m n flag_absent (budget ws b l p x) = record { fine = refl; means = rw (budget_read b l p) refl }
-  front_says flags options fixed m n flag_given (budget ws b l p x) = record { fine = refl; means = rw (budget_read b l p) refl }
-  front_says flags options fixed m n flag_absent (workers_first u v a b i j p q x y) = record { fine = refl; means = rw (workers_read a i p, budget_read b j q) refl }
-  front_says flags options fixed m n flag_given (workers_first u v a b i j p q x y) = record { fine = refl; means = rw (workers_read a i p, budget_read b j q) refl }
-  front_says flags options fixed m n flag_absent (budget_first u v a b i j p q x y) = record { fine = refl; means = rw (workers_read a i p, budget_read b j q) refl }
-  front_says flags options fixed m n flag_given (budget_first u v a b i j p q x y) = record { fine = refl; means = rw (workers_read a i p, budget_read b j q) refl }
+  front_says options false m n neither = record { fine = refl; means = refl }
+  front_says options true m n neither = record { fine = refl; means = refl }
+  front_says options false m n (workers ws a l p x) = record { fine = refl; means = rw (workers_read a l p) refl }
+  front_says options true m n (workers ws a l p x) = record { fine = refl; means = rw (workers_read a l p) refl }
+  front_says options false m n (budget ws b l p x) = record { fine = refl; means = rw (budget_read b l p) refl }
+  front_says options true m n (budget ws b l p x) = record { fine = refl; means = rw (budget_read b l p) refl }
+  front_says options false m n (both_workers u v a b i j p q x y) = record { fine = refl; means = rw (workers_read a i p, budget_read b j q) refl }
+  front_says options true m n (both_workers u v a b i j p q x y) = record { fine = refl; means = rw (workers_read a i p, budget_read b j q) refl }
+  front_says options false m n (both_budget u v a b i j p q x y) = record { fine = refl; means = rw (workers_read a i p, budget_read b j q) refl }
+  front_says options true m n (both_budget u v a b i j p q x y) = record { fine = refl; means = rw (workers_read a i p, budget_read b j q) refl }
 
   -- with the names before them
-  back_says : (flags options : List Text) (fixed : Bool) (m n : ℕ) (f : PlainFlag (codes "fixed") flags fixed) (o : PlainOptions options m n)
-      → Says (given_rows flags options fixed m n f o (names_rows task vertex [])) (asks fixed task vertex m n)
+  back_says : (options : List Text) (fixed : Bool) (m n : ℕ) (o : OptionCases options m n)
+      → Says (given_rows options fixed m n o (names_rows task vertex [])) (asks fixed task vertex m n)
   unfolding clap_on_literals
-  back_says flags options fixed m n flag_absent neither = record { fine = refl; means = refl }
-  back_says flags options fixed m n flag_given neither = record { fine = refl; means = refl }
-  back_says flags options fixed m n flag_absent (workers ws a l p x) = record { fine = refl; means = rw (workers_read a l p) refl }
-  back_says flags options fixed m n flag_given (workers ws a l p x) = record { fine = refl; means = rw (workers_read a l p) refl }
-  back_says flags options fixed m n flag_absent (budget ws b l p x) = record { fine = refl; means = rw (budget_read b l p) refl }
-  back_says flags options fixed m n flag_given (budget ws b l p x) = record { fine = refl; means = rw (budget_read b l p) refl }
-  back_says flags options fixed m n flag_absent (workers_first u v a b i j p q x y) = record { fine = refl; means = rw (workers_read a i p, budget_read b j q) refl }
-  back_says flags options fixed m n flag_given (workers_first u v a b i j p q x y) = record { fine = refl; means = rw (workers_read a i p, budget_read b j q) refl }
-  back_says flags options fixed m n flag_absent (budget_first u v a b i j p q x y) = record { fine = refl; means = rw (workers_read a i p, budget_read b j q) refl }
-  back_says flags options fixed m n flag_given (budget_first u v a b i j p q x y) = record { fine = refl; means = rw (workers_read a i p, budget_read b j q) refl }
+  back_says options false m n neither = record { fine = refl; means = refl }
+  back_says options true m n neither = record { fine = refl; means = refl }
+  back_says options false m n (workers ws a l p x) = record { fine = refl; means = rw (workers_read a l p) refl }
+  back_says options true m n (workers ws a l p x) = record { fine = refl; means = rw (workers_read a l p) refl }
+  back_says options false m n (budget ws b l p x) = record { fine = refl; means = rw (budget_read b l p) refl }
+  back_says options true m n (budget ws b l p x) = record { fine = refl; means = rw (budget_read b l p) refl }
+  back_says options false m n (both_workers u v a b i j p q x y) = record { fine = refl; means = rw (workers_read a i p, budget_read b j q) refl }
+  back_says options true m n (both_workers u v a b i j p q x y) = record { fine = refl; means = rw (workers_read a i p, budget_read b j q) refl }
+  back_says options false m n (both_budget u v a b i j p q x y) = record { fine = refl; means = rw (workers_read a i p, budget_read b j q) refl }
+  back_says options true m n (both_budget u v a b i j p q x y) = record { fine = refl; means = rw (workers_read a i p, budget_read b j q) refl }
 
 -- where the second name has no row, the end is refused
 not_given : (id : Text) (rows : List Row) → has_row id rows ≡ false → is_given id rows ≡ false
@@ -151,20 +151,20 @@ lacks_second rows free = or_second _ _ (go (not (is_given (codes "task") filled)
 
 -- ---- the whole list
 
-module _ (flags options : List Text) (fixed : Bool) (m n : ℕ) (f : PlainFlag (codes "fixed") flags fixed) (o : PlainOptions options m n) where
+module _ (options : List Text) (fixed : Bool) (m n : ℕ) (o : OptionCases options m n) where
   abbrev rows_given : List Row
-  rows_given = given_rows flags options fixed m n f o []
+  rows_given = given_rows options fixed m n o []
 
   free_task : has_row (codes "task") rows_given ≡ false
-  free_task = free_given flags options fixed m n f o (codes "task") refl refl refl [] refl
+  free_task = free_given options fixed m n o (codes "task") refl refl refl [] refl
 
   free_vertex : has_row (codes "vertex") rows_given ≡ false
-  free_vertex = free_given flags options fixed m n f o (codes "vertex") refl refl refl [] refl
+  free_vertex = free_given options fixed m n o (codes "vertex") refl refl refl [] refl
 
   -- the walk over the flag and the options, from the start
   from_start : (out : List Row) (back : List Text) → ((g : Held) → Settles margin_leaf rows_given g → Ends margin_leaf out (at g idle 1 false) back)
-      → Ends margin_leaf out (walk_from nothing_held) (flags ++ (options ++ back))
-  from_start out back after = after_given flags options fixed m n f o 1 [] refl refl refl nothing_held nothing out back after
+      → Ends margin_leaf out (walk_from nothing_held) (flag_words (codes "fixed") fixed ++ (options ++ back))
+  from_start out back after = after_given options fixed m n o 1 [] refl refl refl nothing_held nothing out back after
 
   module _ (task vertex : Text) where
     -- the names, and nothing behind them
@@ -178,44 +178,44 @@ module _ (flags options : List Text) (fixed : Bool) (m n : ℕ) (f : PlainFlag (
 
     below_says : (words : List Text) → Ends margin_leaf (names_rows task vertex rows_given) (walk_from nothing_held) words → meaning_below margin_leaf words ≡ Some (asks fixed task vertex m n)
     below_says words ends =
-        let told = front_says task vertex flags options fixed m n f o in
+        let told = front_says task vertex options fixed m n o in
         rw (below_ends margin_leaf _ words ends told.fine) told.means
 
   front_below : (names : List Text) (spot : Spot) → PlainNames names spot
-      → meaning_below margin_leaf (flags ++ (options ++ names)) ≡ Some (Margin fixed spot (record { workers = m; budget = n }))
+      → meaning_below margin_leaf (flag_words (codes "fixed") fixed ++ (options ++ names)) ≡ Some (Margin fixed spot (record { workers = m; budget = n }))
   front_below names spot (names_alone task vertex t v) =
-      below_says task vertex (flags ++ (options ++ names)) (from_start _ names (last_names task vertex false (plainly t) (plainly v)))
-  front_below names spot (names_behind task vertex) = below_says task vertex (flags ++ (options ++ names)) (from_start _ names (ends_behind task vertex))
+      below_says task vertex (flag_words (codes "fixed") fixed ++ (options ++ names)) (from_start _ names (last_names task vertex false (plainly t) (plainly v)))
+  front_below names spot (names_behind task vertex) = below_says task vertex (flag_words (codes "fixed") fixed ++ (options ++ names)) (from_start _ names (ends_behind task vertex))
 
   pub margin_front_means : (program : Text) (names : List Text) (spot : Spot) → PlainNames names spot
-      → meaning_of (program ∷ codes "margin" ∷ (flags ++ (options ++ names))) ≡ Some (Margin fixed spot (record { workers = m; budget = n }))
-  margin_front_means program names spot x = rw (margin_means program (flags ++ (options ++ names))) (front_below names spot x)
+      → meaning_of (program ∷ codes "margin" ∷ (flag_words (codes "fixed") fixed ++ (options ++ names))) ≡ Some (Margin fixed spot (record { workers = m; budget = n }))
+  margin_front_means program names spot x = rw (margin_means program (flag_words (codes "fixed") fixed ++ (options ++ names))) (front_below names spot x)
 
   pub margin_back_means : (program task vertex : Text) → BeginsPlain task → BeginsPlain vertex
-      → meaning_of (program ∷ codes "margin" ∷ task ∷ vertex ∷ (flags ++ options)) ≡ Some (asks fixed task vertex m n)
+      → meaning_of (program ∷ codes "margin" ∷ task ∷ vertex ∷ (flag_words (codes "fixed") fixed ++ options)) ≡ Some (asks fixed task vertex m n)
   margin_back_means program task vertex t v =
-      let rows = given_rows flags options fixed m n f o (names_rows task vertex []) in
-      let given : (g : Held) → Settles margin_leaf (names_rows task vertex []) g → Ends margin_leaf rows (at g idle 3 false) (flags ++ options) =
+      let rows = given_rows options fixed m n o (names_rows task vertex []) in
+      let given : (g : Held) → Settles margin_leaf (names_rows task vertex []) g → Ends margin_leaf rows (at g idle 3 false) (flag_words (codes "fixed") fixed ++ options) =
       λ g it. rw append-nil at
-      (after_given flags options fixed m n f o 3 (names_rows task vertex []) refl refl refl g it rows [] (λ k held. ends_here margin_leaf rows (at k idle 3 false) held)) in
-      let ends = after_names task vertex false (plainly t) (plainly v) [] refl refl nothing_held nothing rows (flags ++ options) given in
-      let told = back_says task vertex flags options fixed m n f o in
-      rw (margin_means program (task ∷ vertex ∷ (flags ++ options)), below_ends margin_leaf rows (task ∷ vertex ∷ (flags ++ options)) ends told.fine) told.means
+      (after_given options fixed m n o 3 (names_rows task vertex []) refl refl refl g it rows [] (λ k held. ends_here margin_leaf rows (at k idle 3 false) held)) in
+      let ends = after_names task vertex false (plainly t) (plainly v) [] refl refl nothing_held nothing rows (flag_words (codes "fixed") fixed ++ options) given in
+      let told = back_says task vertex options fixed m n o in
+      rw (margin_means program (task ∷ vertex ∷ (flag_words (codes "fixed") fixed ++ options)), below_ends margin_leaf rows (task ∷ vertex ∷ (flag_words (codes "fixed") fixed ++ options)) ends told.fine) told.means
 
-  no_name_means : (program : Text) → meaning_of (program ∷ codes "margin" ∷ (flags ++ options)) ≡ None
+  no_name_means : (program : Text) → meaning_of (program ∷ codes "margin" ∷ (flag_words (codes "fixed") fixed ++ options)) ≡ None
   no_name_means program =
       let ends = rw append-nil at (from_start rows_given [] (λ g it. ends_here margin_leaf rows_given (at g idle 1 false) it)) in
-      rw (margin_means program (flags ++ options)) (below_misses margin_leaf rows_given (flags ++ options) ends (lacks_second rows_given free_vertex))
+      rw (margin_means program (flag_words (codes "fixed") fixed ++ options)) (below_misses margin_leaf rows_given (flag_words (codes "fixed") fixed ++ options) ends (lacks_second rows_given free_vertex))
 
-  one_name_means : (program name : Text) → BeginsPlain name → meaning_of (program ∷ codes "margin" ∷ (flags ++ (options ++ name ∷ []))) ≡ None
+  one_name_means : (program name : Text) → BeginsPlain name → meaning_of (program ∷ codes "margin" ∷ (flag_words (codes "fixed") fixed ++ (options ++ name ∷ []))) ≡ None
   one_name_means program name t =
       let rows = used first_name_built (name ∷ []) rows_given in
       let ends = from_start rows (name ∷ [])
       (λ g it. after_word margin_leaf first_name_built 1 takes_first name rows_given (rw free_task refl) g it false (plainly t) rows []
       (λ k held. ends_here margin_leaf rows (at k idle 2 false) held)) in
       let free = free_used (codes "vertex") (codes "task") refl _ _ rows_given free_vertex in
-      rw (margin_means program (flags ++ (options ++ name ∷ []))) (below_misses margin_leaf rows (flags ++ (options ++ name ∷ [])) ends (lacks_second rows free))
+      rw (margin_means program (flag_words (codes "fixed") fixed ++ (options ++ name ∷ []))) (below_misses margin_leaf rows (flag_words (codes "fixed") fixed ++ (options ++ name ∷ [])) ends (lacks_second rows free))
 
 pub missing_means : (words : List Text) → MissesNames words → meaning_of words ≡ None
-missing_means words (no_name program flags options fixed m n f o) = no_name_means flags options fixed m n f o program
-missing_means words (one_name program name flags options fixed m n f o t) = one_name_means flags options fixed m n f o program name t
+missing_means words (no_name program options fixed m n o) = no_name_means options fixed m n (cases_of options m n o) program
+missing_means words (one_name program name options fixed m n o t) = one_name_means options fixed m n (cases_of options m n o) program name t

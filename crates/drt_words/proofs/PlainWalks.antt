@@ -8,7 +8,7 @@ use Rattle.clap.specs.Walk.{Held, Row, Rule, Text, Walk, arg_by_id, arg_by_index
 use Rattle.clap.specs.Walk.{pushed, reacted, nothing_held, settled, takes_several, used, value, walk_from, walked, with_default}
 use Rattle.clap.specs.Faults.{check_fault, defaults_fault, settle_fault, step_fault, turn_fault, use_fault, walk_fault}
 use Rattle.drt_words.specs.CommandLine.{flag_rule, number_rule}
-use Rattle.drt_words.specs.Plain.{BeginsPlain, PlainFlag, flag_absent, flag_given, Spells, apart, joined}
+use Rattle.drt_words.specs.Plain.{BeginsPlain, flag_words, Spells, apart, joined}
 use Rattle.drt_words.specs.Meaning.{meaning_at}
 use Rattle.drt_words.proofs.WordWalks.{Faulty, at, dashes}
 use Rattle.drt_words.proofs.Entering.{meaning_below, refused_below}
@@ -130,9 +130,9 @@ pub record HasFlag (s : Shape) (name : Text) : Type 0 where
   pub long : long_of (codes "--" ++ name) ≡ Some (name, None)
 
 -- the rows with the flag's, where it is given
-abbrev pub flag_rows : (name : Text) (words : List Text) (is_given : Bool) → PlainFlag name words is_given → List Row → List Row
-flag_rows name words is_given flag_absent rows = rows
-flag_rows name words is_given flag_given rows = used (flag_built name) [] rows
+abbrev pub flag_rows : Text → Bool → List Row → List Row
+flag_rows name false rows = rows
+flag_rows name true rows = used (flag_built name) [] rows
 
 module _ (s : Shape) (name : Text) (o : HasFlag s name) (rows : List Row) (free : has_row name rows ≡ false) (h : Held) (it : Settles s rows h) (place : ℕ) where
   flag_turns : turn_fault s [] (at h idle place false) (codes "--" ++ name) ≡ []
@@ -146,10 +146,10 @@ module _ (s : Shape) (name : Text) (o : HasFlag s name) (rows : List Row) (free 
   flag_settles = record { no_fault = refl; leaves = rw it.leaves refl }
 
   -- the flag where it is given, and what follows it
-  pub after_flag : (words back : List Text) (is_given : Bool) (f : PlainFlag name words is_given) (out : List Row)
-      → ((g : Held) → Settles s (flag_rows name words is_given f rows) g → Ends s out (at g idle place false) back) → Ends s out (at h idle place false) (words ++ back)
-  after_flag words back is_given flag_absent out after = after h it
-  after_flag words back is_given flag_given out after = one_more s out _ _ _ _ flag_turns flag_walks (after (reacted s.rules (flag_built name) [] h) flag_settles)
+  pub after_flag : (back : List Text) (is_given : Bool) (out : List Row)
+      → ((g : Held) → Settles s (flag_rows name is_given rows) g → Ends s out (at g idle place false) back) → Ends s out (at h idle place false) (flag_words name is_given ++ back)
+  after_flag back false out after = after h it
+  after_flag back true out after = one_more s out _ _ _ _ flag_turns flag_walks (after (reacted s.rules (flag_built name) [] h) flag_settles)
 
 -- ---- a word of its own
 
