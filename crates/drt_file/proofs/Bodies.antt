@@ -16,7 +16,8 @@ use Rattle.drt_file.specs.internal.Kinds.{kind}
 use Rattle.drt_file.specs.trusted.Line.{is_text}
 use Rattle.drt_file.specs.internal.StateFaults.{kind_fault, has_vertex, has_edge, has_that_priority, place_of_name}
 use Rattle.drt_file.specs.internal.Steps.{narrow, with_vertex, with_edge, with_priority, on_current, after_kind, line_step, capped}
-use Rattle.drt_file.specs.trusted.Reading.{Means, Says, nothing, vertex, edge, priority}
+use Rattle.drt_file.specs.trusted.Reading.{Says, nothing, vertex, edge, priority}
+use Rattle.drt_file.proofs.Written.{Means, means_number}
 use Rattle.drt_file.proofs.Snoc.{every_pop, every_map, every_unmap, every_weaker, Pairwise, pairs_pop}
 use Rattle.drt_file.proofs.Meanings.{name_text, number_text, unlike, any_of_every}
 use Rattle.drt_file.proofs.Names.{name_is}
@@ -282,24 +283,21 @@ pub body_leads : (version k : ℕ) (done : List Task) (name : List ℕ) (body : 
     → Parts version vs es → Allowed version done p
     → Leads (In version done (name, held version k None, [], [])) body (In version done (name, held version k p, vs, es))
 body_leads version k done name body vs es p nothing parts allowed = leads_none (In version done (name, held version k None, [], []))
-body_leads version k done name body vs es p (vertex body2 vs2 es2 p2 words v says (wcet, deadline, are, mw, ml)) parts allowed =
+body_leads version k done name body vs es p (vertex body2 vs2 es2 p2 v wcet deadline says mw ml) parts allowed =
     leads_then (In version done (name, held version k None, [], [])) (In version done (name, held version k p2, vs2, es2))
-    (In version done (name, held version k p2, vs2 ++ v ∷ [], es2)) body2 (words ∷ [])
+    (In version done (name, held version k p2, vs2 ++ v ∷ [], es2)) body2 ((vertex_word ∷ v.name ∷ wcet ∷ deadline ∷ []) ∷ [])
     (body_leads version k done name body2 vs2 es2 p2 says (parts_vertex version vs2 v es2 parts) allowed)
-    (subst (λ w. Leads (In version done (name, held version k p2, vs2, es2)) (w ∷ []) (In version done (name, held version k p2, vs2 ++ v ∷ [], es2))) (sym are)
     (leads_one (In version done (name, held version k p2, vs2, es2)) (In version done (name, held version k p2, vs2 ++ v ∷ [], es2)) (vertex_word ∷ v.name ∷ wcet ∷ deadline ∷ [])
-    (vertex_one version done name (held version k p2) vs2 es2 v wcet deadline mw ml parts)))
-body_leads version k done name body vs es p (edge body2 vs2 es2 p2 words e says (from, to, sep, at_from, at_to, are, m)) parts allowed =
+    (vertex_one version done name (held version k p2) vs2 es2 v wcet deadline (means_number wcet v.wcet mw) (means_number deadline v.deadline ml) parts))
+body_leads version k done name body vs es p (edge body2 vs2 es2 p2 e from to sep says at_from at_to m) parts allowed =
     leads_then (In version done (name, held version k None, [], [])) (In version done (name, held version k p2, vs2, es2))
-    (In version done (name, held version k p2, vs2, es2 ++ e ∷ [])) body2 (words ∷ [])
+    (In version done (name, held version k p2, vs2, es2 ++ e ∷ [])) body2 ((edge_word ∷ from.name ∷ to.name ∷ sep ∷ []) ∷ [])
     (body_leads version k done name body2 vs2 es2 p2 says (parts_edge version vs2 e es2 parts) allowed)
-    (subst (λ w. Leads (In version done (name, held version k p2, vs2, es2)) (w ∷ []) (In version done (name, held version k p2, vs2, es2 ++ e ∷ []))) (sym are)
     (leads_one (In version done (name, held version k p2, vs2, es2)) (In version done (name, held version k p2, vs2, es2 ++ e ∷ [])) (edge_word ∷ from.name ∷ to.name ∷ sep ∷ [])
-    (edge_one version done name (held version k p2) vs2 es2 e from to sep at_from at_to m parts)))
-body_leads version k done name body vs es p (priority body2 vs2 es2 words n says (number, are, m)) parts allowed =
+    (edge_one version done name (held version k p2) vs2 es2 e from to sep at_from at_to (means_number sep e.sep m) parts))
+body_leads version k done name body vs es p (priority body2 vs2 es2 number n says m) parts allowed =
     leads_then (In version done (name, held version k None, [], [])) (In version done (name, held version k None, vs2, es2))
-    (In version done (name, held version k (Some n), vs2, es2)) body2 (words ∷ [])
+    (In version done (name, held version k (Some n), vs2, es2)) body2 ((priority_word ∷ number ∷ []) ∷ [])
     (body_leads version k done name body2 vs2 es2 None says parts (λ j e. absurd (cc)))
-    (subst (λ w. Leads (In version done (name, held version k None, vs2, es2)) (w ∷ []) (In version done (name, held version k (Some n), vs2, es2))) (sym are)
     (leads_one (In version done (name, held version k None, vs2, es2)) (In version done (name, held version k (Some n), vs2, es2)) (priority_word ∷ number ∷ [])
-    (priority_one version k done name vs2 es2 n number m allowed)))
+    (priority_one version k done name vs2 es2 n number (means_number number n m) allowed))

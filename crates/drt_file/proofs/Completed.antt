@@ -12,7 +12,7 @@ use Rattle.drt_file.specs.trusted.Canonical.{end_line}
 use Rattle.drt_file.specs.internal.Kinds.{kind}
 use Rattle.drt_file.specs.internal.StateFaults.{kind_fault, end_fault, has_priority, has_vertex, has_that_priority, in_task, is_outside}
 use Rattle.drt_file.specs.internal.Steps.{with_last, with_vertex, with_priority, on_current, after_task, after_end, after_kind, opening, head, headed, line_step, capped}
-use Rattle.drt_file.specs.trusted.Reading.{Means}
+use Rattle.drt_file.proofs.Written.{Means}
 use Rattle.drt_file.specs.trusted.Cutting.{HasNoFeed}
 use Rattle.drt_file.specs.internal.Strict.{is_printed, is_whole, takes_vertex, takes_priority, fits, fits_below, strict_step, strict_steps, has_ended}
 use Rattle.drt_file.proofs.Again.{IsField, joined_again, joined_no_feed}

@@ -8,7 +8,7 @@ use Rattle.drt_file.specs.internal.Steps.{capped}
 use Rattle.drt_file.specs.trusted.Words.{is_digit, value_after, value, is_number}
 use Rattle.drt_file.proofs.Again.{IsField}
 
-numerals : IsNumeralModel (λ ds. list_all is_digit ds ≡ true) value
+pub numerals : IsNumeralModel (λ ds. list_all is_digit ds ≡ true) value
 unfolding is_digit value_after
 numerals = numerals_by_fold _ (search rules) value_after (search rules)
 

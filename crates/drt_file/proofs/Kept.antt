@@ -12,7 +12,8 @@ use Rattle.drt_file.specs.trusted.Line.{is_in_range}
 use Rattle.drt_file.specs.trusted.Canonical.{version_line}
 use Rattle.drt_file.specs.internal.StateFaults.{has_edge, has_that_priority, place_of_name}
 use Rattle.drt_file.specs.internal.Steps.{narrow, with_vertex, with_edge, with_priority, capped}
-use Rattle.drt_file.specs.trusted.Reading.{Means, Says, vertex, edge, priority, written_priority}
+use Rattle.drt_file.specs.trusted.Reading.{Says}
+use Rattle.drt_file.proofs.Written.{Means, says_vertex, says_edge, says_priority, written_priority}
 use Rattle.drt_file.proofs.Snoc.{every_push, every_weaker, every_map, Pairwise, pairs_push}
 use Rattle.drt_file.proofs.Meanings.{range_is, range_capped, differ, every_of_any}
 use Rattle.drt_file.proofs.Names.{is_a_name}
@@ -86,7 +87,7 @@ vertex_goes ws s words p is at =
       says_last = record {
         body = last.body ++ words ∷ [];
         own_is = ap (λ l. l ++ words ∷ []) last.own_is;
-        says = vertex last.body d.vertices d.edges (written_priority s.version d.priority) words v last.says
+        says = says_vertex last.body d.vertices d.edges (written_priority s.version d.priority) words v last.says
             (p.wcet, p.deadline, p.words_are ∙ ap (λ w. w ∷ p.name ∷ p.wcet ∷ p.deadline ∷ []) is, means p.wcet p.numbers.0 p.in_range.0, means p.deadline p.numbers.1 p.in_range.1);
         name = last.name;
         priority = last.priority;
@@ -145,7 +146,7 @@ edge_goes ws s words p is at =
       says_last = record {
         body = last.body ++ words ∷ [];
         own_is = ap (λ l. l ++ words ∷ []) last.own_is;
-        says = edge last.body vs d.edges (written_priority s.version d.priority) words e last.says
+        says = says_edge last.body vs d.edges (written_priority s.version d.priority) words e last.says
             (from.0, to.0, p.sep, ap (slice_get vs) f_same ∙ from.1, ap (slice_get vs) t_same ∙ to.1, p.words_are ∙ rw (is, from.2, to.2) refl, means p.sep p.number p.in_range);
         name = last.name;
         priority = last.priority;
@@ -198,7 +199,7 @@ priority_goes ws s words p is two at =
     let was : written_priority s.version d.priority ≡ None = ap (written_priority s.version) p.none_yet ∙ written_none s.version in
     let now : written_priority s.version (Some n) ≡ Some n = written_two s.version (Some n) two in
     let none_said : Says last.body d.vertices d.edges None = subst (Says last.body d.vertices d.edges) was last.says in
-    let said = priority last.body d.vertices d.edges words n none_said (p.number, p.words_are ∙ ap (λ w. w ∷ p.number ∷ []) is, means p.number p.is_one p.in_range) in
+    let said = says_priority last.body d.vertices d.edges words n none_said (p.number, p.words_are ∙ ap (λ w. w ∷ p.number ∷ []) is, means p.number p.is_one p.in_range) in
     record {
       known = at.known;
       done = at.done;

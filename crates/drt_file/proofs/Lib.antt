@@ -37,3 +37,4 @@ pub mod Table
 pub mod TaskLines
 pub mod TextFaults
 pub mod Whole
+pub mod Written

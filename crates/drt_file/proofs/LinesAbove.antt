@@ -13,7 +13,8 @@ use Rattle.drt_file.specs.declared.state.Draft.{Draft}
 use Rattle.drt_file.specs.trusted.Words.{value, task_word, vertex_word, edge_word, priority_word}
 use Rattle.drt_file.specs.trusted.Canonical.{name_at}
 use Rattle.drt_file.specs.trusted.Faults.{Fields, field, is_task, is_vertex, is_edge, is_priority, is_end, has_task, own_lines, lines_of_others}
-use Rattle.drt_file.specs.trusted.Reading.{Says, nothing, vertex, edge, priority, SaysVertex, SaysEdge, SaysPriority, written_priority}
+use Rattle.drt_file.specs.trusted.Reading.{Says, nothing, vertex, edge, priority}
+use Rattle.drt_file.proofs.Written.{SaysVertex, SaysEdge, SaysPriority, means_number, written_priority}
 use Rattle.drt_file.specs.internal.StateFaults.{place_of_name, has_edge, has_that_priority}
 use Rattle.drt_file.proofs.Kept.{IsDraft, SaysDrafts, none, more}
 use Rattle.drt_file.proofs.Meanings.{unlike, either_false}
@@ -83,22 +84,34 @@ no_priority_at q never words n (number, is, m) = ap q is ∙ never number
 
 pub none_said : (q : Fields → Bool) → NoVertices q → NoEdges q → NoPriorities q → (body : List Fields) (vs : List Vertex) (es : List Edge) (p : Option ℕ) → Says body vs es p → list_any q body ≡ false
 none_said q nv ne np body vs es p nothing = refl
-none_said q nv ne np body vs es p (vertex body2 vs2 es2 p2 words v says is) =
+none_said q nv ne np body vs es p (vertex body2 vs2 es2 p2 v wcet deadline says mw ml) =
+    let words = vertex_word ∷ v.name ∷ wcet ∷ deadline ∷ [] in
+    let is : SaysVertex words v = (wcet, deadline, refl, means_number wcet v.wcet mw, means_number deadline v.deadline ml) in
     any_push q body2 words ∙ or_none (list_any q body2) (q words) (no_vertex_at q nv words v is) ∙ none_said q nv ne np body2 vs2 es2 p2 says
-none_said q nv ne np body vs es p (edge body2 vs2 es2 p2 words e says is) =
+none_said q nv ne np body vs es p (edge body2 vs2 es2 p2 e from to sep says at_from at_to m) =
+    let words = edge_word ∷ from.name ∷ to.name ∷ sep ∷ [] in
+    let is : SaysEdge vs2 words e = (from, to, sep, at_from, at_to, refl, means_number sep e.sep m) in
     any_push q body2 words ∙ or_none (list_any q body2) (q words) (no_edge_at q ne vs2 words e is) ∙ none_said q nv ne np body2 vs2 es2 p2 says
-none_said q nv ne np body vs es p (priority body2 vs2 es2 words n says is) =
+none_said q nv ne np body vs es p (priority body2 vs2 es2 number n says m) =
+    let words = priority_word ∷ number ∷ [] in
+    let is : SaysPriority words n = (number, refl, means_number number n m) in
     any_push q body2 words ∙ or_none (list_any q body2) (q words) (no_priority_at q np words n is) ∙ none_said q nv ne np body2 vs2 es2 None says
 
 -- Vertices.
 pub vertices_said : (q : Fields → Bool) (r : Vertex → Bool) → OnVertices q r → NoEdges q → NoPriorities q
     → (body : List Fields) (vs : List Vertex) (es : List Edge) (p : Option ℕ) → Says body vs es p → list_any q body ≡ list_any r vs
 vertices_said q r on ne np body vs es p nothing = refl
-vertices_said q r on ne np body vs es p (vertex body2 vs2 es2 p2 words v says is) =
+vertices_said q r on ne np body vs es p (vertex body2 vs2 es2 p2 v wcet deadline says mw ml) =
+    let words = vertex_word ∷ v.name ∷ wcet ∷ deadline ∷ [] in
+    let is : SaysVertex words v = (wcet, deadline, refl, means_number wcet v.wcet mw, means_number deadline v.deadline ml) in
     any_push q body2 words ∙ ap (λ b. b || q words) (vertices_said q r on ne np body2 vs2 es2 p2 says) ∙ ap (λ b. list_any r vs2 || b) (on words v is) ∙ sym (any_push r vs2 v)
-vertices_said q r on ne np body vs es p (edge body2 vs2 es2 p2 words e says is) =
+vertices_said q r on ne np body vs es p (edge body2 vs2 es2 p2 e from to sep says at_from at_to m) =
+    let words = edge_word ∷ from.name ∷ to.name ∷ sep ∷ [] in
+    let is : SaysEdge vs2 words e = (from, to, sep, at_from, at_to, refl, means_number sep e.sep m) in
     any_push q body2 words ∙ or_none (list_any q body2) (q words) (no_edge_at q ne vs2 words e is) ∙ vertices_said q r on ne np body2 vs2 es2 p2 says
-vertices_said q r on ne np body vs es p (priority body2 vs2 es2 words n says is) =
+vertices_said q r on ne np body vs es p (priority body2 vs2 es2 number n says m) =
+    let words = priority_word ∷ number ∷ [] in
+    let is : SaysPriority words n = (number, refl, means_number number n m) in
     any_push q body2 words ∙ or_none (list_any q body2) (q words) (no_priority_at q np words n is) ∙ vertices_said q r on ne np body2 vs2 es2 None says
 
 pub vertices_named : (name : List ℕ) (body : List Fields) (vs : List Vertex) (es : List Edge) (p : Option ℕ) → Says body vs es p
@@ -124,21 +137,33 @@ is_edge_at vs words e (from, to, sep, f, t, is, m) = rw is refl
 pub vertices_counted : (body : List Fields) (vs : List Vertex) (es : List Edge) (p : Option ℕ) → Says body vs es p → count_by is_vertex body ≡ length vs
 unfolding is_vertex
 vertices_counted body vs es p nothing = refl
-vertices_counted body vs es p (vertex body2 vs2 es2 p2 words v says is) =
+vertices_counted body vs es p (vertex body2 vs2 es2 p2 v wcet deadline says mw ml) =
+    let words = vertex_word ∷ v.name ∷ wcet ∷ deadline ∷ [] in
+    let is : SaysVertex words v = (wcet, deadline, refl, means_number wcet v.wcet mw, means_number deadline v.deadline ml) in
     count_push is_vertex body2 words ∙ plus_one _ (is_vertex words) (is_vertex_at words v is) ∙ ap (λ n. n + 1) (vertices_counted body2 vs2 es2 p2 says) ∙ sym (length-append vs2 (v ∷ []))
-vertices_counted body vs es p (edge body2 vs2 es2 p2 words e says is) =
+vertices_counted body vs es p (edge body2 vs2 es2 p2 e from to sep says at_from at_to m) =
+    let words = edge_word ∷ from.name ∷ to.name ∷ sep ∷ [] in
+    let is : SaysEdge vs2 words e = (from, to, sep, at_from, at_to, refl, means_number sep e.sep m) in
     count_push is_vertex body2 words ∙ plus_none _ (is_vertex words) (no_edge_at is_vertex (λ f t s. refl) vs2 words e is) ∙ vertices_counted body2 vs2 es2 p2 says
-vertices_counted body vs es p (priority body2 vs2 es2 words n says is) =
+vertices_counted body vs es p (priority body2 vs2 es2 number n says m) =
+    let words = priority_word ∷ number ∷ [] in
+    let is : SaysPriority words n = (number, refl, means_number number n m) in
     count_push is_vertex body2 words ∙ plus_none _ (is_vertex words) (no_priority_at is_vertex (λ m. refl) words n is) ∙ vertices_counted body2 vs2 es2 None says
 
 pub edges_counted : (body : List Fields) (vs : List Vertex) (es : List Edge) (p : Option ℕ) → Says body vs es p → count_by is_edge body ≡ length es
 unfolding is_edge
 edges_counted body vs es p nothing = refl
-edges_counted body vs es p (vertex body2 vs2 es2 p2 words v says is) =
+edges_counted body vs es p (vertex body2 vs2 es2 p2 v wcet deadline says mw ml) =
+    let words = vertex_word ∷ v.name ∷ wcet ∷ deadline ∷ [] in
+    let is : SaysVertex words v = (wcet, deadline, refl, means_number wcet v.wcet mw, means_number deadline v.deadline ml) in
     count_push is_edge body2 words ∙ plus_none _ (is_edge words) (no_vertex_at is_edge (λ a b c. refl) words v is) ∙ edges_counted body2 vs2 es2 p2 says
-edges_counted body vs es p (edge body2 vs2 es2 p2 words e says is) =
+edges_counted body vs es p (edge body2 vs2 es2 p2 e from to sep says at_from at_to m) =
+    let words = edge_word ∷ from.name ∷ to.name ∷ sep ∷ [] in
+    let is : SaysEdge vs2 words e = (from, to, sep, at_from, at_to, refl, means_number sep e.sep m) in
     count_push is_edge body2 words ∙ plus_one _ (is_edge words) (is_edge_at vs2 words e is) ∙ ap (λ n. n + 1) (edges_counted body2 vs2 es2 p2 says) ∙ sym (length-append es2 (e ∷ []))
-edges_counted body vs es p (priority body2 vs2 es2 words n says is) =
+edges_counted body vs es p (priority body2 vs2 es2 number n says m) =
+    let words = priority_word ∷ number ∷ [] in
+    let is : SaysPriority words n = (number, refl, means_number number n m) in
     count_push is_edge body2 words ∙ plus_none _ (is_edge words) (no_priority_at is_edge (λ m. refl) words n is) ∙ edges_counted body2 vs2 es2 None says
 
 -- Edges, by the names of their ends.
@@ -168,13 +193,19 @@ edges_named : (f t : List ℕ) (body : List Fields) (vs : List Vertex) (es : Lis
     → list_any (joins f t) body ≡ list_any (joined_by f t (vs ++ more_vs)) es
 unfolding is_edge
 edges_named f t body vs es p nothing more_vs = refl
-edges_named f t body vs es p (vertex body2 vs2 es2 p2 words v says is) more_vs =
+edges_named f t body vs es p (vertex body2 vs2 es2 p2 v wcet deadline says mw ml) more_vs =
+    let words = vertex_word ∷ v.name ∷ wcet ∷ deadline ∷ [] in
+    let is : SaysVertex words v = (wcet, deadline, refl, means_number wcet v.wcet mw, means_number deadline v.deadline ml) in
     any_push (joins f t) body2 words ∙ or_none _ (joins f t words) (no_vertex_at (joins f t) (λ a b c. refl) words v is) ∙ edges_named f t body2 vs2 es2 p2 says (v ∷ more_vs)
     ∙ ap (λ l. list_any (joined_by f t l) es2) (sym (append_assoc vs2 (v ∷ []) more_vs))
-edges_named f t body vs es p (edge body2 vs2 es2 p2 words e says is) more_vs =
+edges_named f t body vs es p (edge body2 vs2 es2 p2 e from to sep says at_from at_to m) more_vs =
+    let words = edge_word ∷ from.name ∷ to.name ∷ sep ∷ [] in
+    let is : SaysEdge vs2 words e = (from, to, sep, at_from, at_to, refl, means_number sep e.sep m) in
     any_push (joins f t) body2 words ∙ ap (λ b. b || joins f t words) (edges_named f t body2 vs2 es2 p2 says more_vs)
     ∙ ap (λ b. list_any (joined_by f t (vs2 ++ more_vs)) es2 || b) (edge_named f t vs2 more_vs words e is) ∙ sym (any_push (joined_by f t (vs2 ++ more_vs)) es2 e)
-edges_named f t body vs es p (priority body2 vs2 es2 words n says is) more_vs =
+edges_named f t body vs es p (priority body2 vs2 es2 number n says m) more_vs =
+    let words = priority_word ∷ number ∷ [] in
+    let is : SaysPriority words n = (number, refl, means_number number n m) in
     any_push (joins f t) body2 words ∙ or_none _ (joins f t words) (no_priority_at (joins f t) (λ m. refl) words n is) ∙ edges_named f t body2 vs2 es2 None says more_vs
 
 -- A place is that of a name where the vertex there has the name.
@@ -226,11 +257,17 @@ edges_said f t body vs es p says distinct are =
 pub priorities_said : (q : Fields → Bool) (r : ℕ → Bool) → NoVertices q → NoEdges q → ((words : List (List ℕ)) (n : ℕ) → SaysPriority words n → q words ≡ r n)
     → (body : List Fields) (vs : List Vertex) (es : List Edge) (p : Option ℕ) → Says body vs es p → list_any q body ≡ elim p [ None ↦ false | Some n ↦ r n ]
 priorities_said q r nv ne on body vs es p nothing = refl
-priorities_said q r nv ne on body vs es p (vertex body2 vs2 es2 p2 words v says is) =
+priorities_said q r nv ne on body vs es p (vertex body2 vs2 es2 p2 v wcet deadline says mw ml) =
+    let words = vertex_word ∷ v.name ∷ wcet ∷ deadline ∷ [] in
+    let is : SaysVertex words v = (wcet, deadline, refl, means_number wcet v.wcet mw, means_number deadline v.deadline ml) in
     any_push q body2 words ∙ or_none (list_any q body2) (q words) (no_vertex_at q nv words v is) ∙ priorities_said q r nv ne on body2 vs2 es2 p2 says
-priorities_said q r nv ne on body vs es p (edge body2 vs2 es2 p2 words e says is) =
+priorities_said q r nv ne on body vs es p (edge body2 vs2 es2 p2 e from to sep says at_from at_to m) =
+    let words = edge_word ∷ from.name ∷ to.name ∷ sep ∷ [] in
+    let is : SaysEdge vs2 words e = (from, to, sep, at_from, at_to, refl, means_number sep e.sep m) in
     any_push q body2 words ∙ or_none (list_any q body2) (q words) (no_edge_at q ne vs2 words e is) ∙ priorities_said q r nv ne on body2 vs2 es2 p2 says
-priorities_said q r nv ne on body vs es p (priority body2 vs2 es2 words n says is) =
+priorities_said q r nv ne on body vs es p (priority body2 vs2 es2 number n says m) =
+    let words = priority_word ∷ number ∷ [] in
+    let is : SaysPriority words n = (number, refl, means_number number n m) in
     any_push q body2 words ∙ ap (λ b. b || q words) (priorities_said q r nv ne on body2 vs2 es2 None says) ∙ on words n is
 
 pub has_priority_said : (body : List Fields) (vs : List Vertex) (es : List Edge) (p : Option ℕ) → Says body vs es p → list_any is_priority body ≡ elim p [ None ↦ false | Some n ↦ true ]

@@ -10,7 +10,8 @@ use Rattle.drt_file.specs.trusted.Words.{task_word}
 use Rattle.drt_file.specs.trusted.Canonical.{version_line}
 use Rattle.drt_file.specs.internal.StateFaults.{is_outside, task_count}
 use Rattle.drt_file.specs.internal.Steps.{narrow, with_last, opening_priority}
-use Rattle.drt_file.specs.trusted.Reading.{Says, nothing, written_priority}
+use Rattle.drt_file.specs.trusted.Reading.{Says, nothing}
+use Rattle.drt_file.proofs.Written.{written_priority}
 use Rattle.drt_file.proofs.Snoc.{every_push, every_weaker, every_map}
 use Rattle.drt_file.proofs.Meanings.{differ, every_of_any}
 use Rattle.drt_file.proofs.Names.{is_a_name}

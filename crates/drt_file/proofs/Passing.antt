@@ -11,7 +11,7 @@ use Rattle.drt_file.specs.declared.state.Draft.{Draft}
 use Rattle.drt_file.specs.declared.state.State.{State}
 use Rattle.drt_file.specs.trusted.Words.{is_name, value, task_word, vertex_word, edge_word, priority_word}
 use Rattle.drt_file.specs.trusted.Line.{is_in_range}
-use Rattle.drt_file.specs.trusted.Reading.{Means}
+use Rattle.drt_file.proofs.Written.{Means}
 use Rattle.drt_file.specs.internal.StateFaults.{first_of, in_task, in_some_task, is_outside, task_fault, vertex_fault, edge_fault, priority_fault, has_vertex, has_edge, has_priority, has_that_priority, place_of_name, task_count}
 use Rattle.drt_file.specs.internal.Steps.{with_last, capped}
 use Rattle.drt_file.proofs.Snoc.{every_weaker, Pairwise}

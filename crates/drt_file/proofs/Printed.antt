@@ -14,7 +14,8 @@ use Rattle.drt_file.specs.trusted.Cutting.{lines_of_fields}
 use Rattle.drt_file.specs.trusted.Words.{edge_word, priority_word}
 use Rattle.drt_file.specs.trusted.Canonical.{name_at, vertex_line, edge_line, end_line, priority_lines, lines_of_body, task_lines, set_lines, canonical}
 use Rattle.drt_file.specs.trusted.Line.{is_skipped}
-use Rattle.drt_file.specs.trusted.Reading.{Means, Says, nothing, vertex, edge, priority, written_priority, SaysTask, SaysTasks, no_task, next_task, Reads}
+use Rattle.drt_file.specs.trusted.Reading.{Says, nothing, SaysTask, SaysTasks, no_task, next_task, Reads}
+use Rattle.drt_file.proofs.Written.{Means, says_vertex, says_edge, says_priority, written_priority, written_is}
 use Rattle.drt_file.proofs.Again.{all_of_both, written_again}
 use Rattle.drt_file.proofs.Digits.{decimal_number, value_decimal}
 use Rattle.drt_file.proofs.Exact.{one_set}
@@ -71,7 +72,7 @@ vertices_said : (us : List Vertex) (body : List (List (List ℕ))) (vs : List Ve
     → Says (body ++ map vertex_line us) (vs ++ us) es p
 vertices_said [] body vs es p are says = rw (append-nil body, append-nil vs) says
 vertices_said (u ∷ us) body vs es p are says =
-    let one = vertex body vs es p (vertex_line u) u says (decimal u.wcet, decimal u.deadline, refl, means_decimal u.wcet are.0.wcet.1, means_decimal u.deadline are.0.deadline.1) in
+    let one = says_vertex body vs es p (vertex_line u) u says (decimal u.wcet, decimal u.deadline, refl, means_decimal u.wcet are.0.wcet.1, means_decimal u.deadline are.0.deadline.1) in
     let rest = vertices_said us (body ++ vertex_line u ∷ []) (vs ++ u ∷ []) es p are.1 one in
     subst (λ b. Says b (vs ++ u ∷ us) es p) (append_assoc body (vertex_line u ∷ []) (map vertex_line us))
     (subst (λ (ns : List Vertex). Says ((body ++ vertex_line u ∷ []) ++ map vertex_line us) ns es p) (append_assoc vs (u ∷ []) us) rest)
@@ -87,7 +88,7 @@ edge_said vs body es p e is says =
     let line : edge_line vs e ≡ edge_word ∷ from.name ∷ to.name ∷ decimal e.sep ∷ []
     = ap (λ n. edge_word ∷ n ∷ name_at vs e.to ∷ decimal e.sep ∷ []) (name_at_is vs e.from nobody is.from) ∙ ap (λ n. edge_word ∷ from.name ∷ n ∷ decimal e.sep ∷ [])
     (name_at_is vs e.to nobody is.to) in
-    edge body vs es p (edge_line vs e) e says
+    says_edge body vs es p (edge_line vs e) e says
     (from, to, decimal e.sep, slice_get-get_or vs e.from nobody is.from, slice_get-get_or vs e.to nobody is.to, line, means_decimal e.sep is.sep.1)
 
 edges_said : (fs : List Edge) (body : List (List (List ℕ))) (vs : List Vertex) (es : List Edge) (p : Option ℕ) → AllByRecursion (IsEdgeAmong (length vs)) fs → Says body vs es p
@@ -103,7 +104,7 @@ unfolding priority_lines written_priority
 priority_said version t le = go (version == 2)
   where
     go : (b : Bool) → Says (cond b ((priority_word ∷ decimal t.priority ∷ []) ∷ []) []) [] [] (cond b (Some t.priority) None)
-    go true = priority [] [] [] (priority_word ∷ decimal t.priority ∷ []) t.priority nothing (decimal t.priority, refl, means_decimal t.priority le)
+    go true = says_priority [] [] [] (priority_word ∷ decimal t.priority ∷ []) t.priority nothing (decimal t.priority, refl, means_decimal t.priority le)
     go false = nothing
 
 task_said : (version : ℕ) (t : Task) → IsTask version t → SaysTask version (task_lines version t) t
@@ -115,7 +116,8 @@ task_said version t is =
     let p = written_priority version (Some t.priority) in
     let vertices : Says (pl ++ mv) t.vertices [] p = vertices_said t.vertices pl [] [] p (recursion_from_All IsVertex t.vertices is.vertices) (priority_said version t is.priority.1) in
     let edges : Says ((pl ++ mv) ++ me) t.vertices t.edges p = edges_said t.edges (pl ++ mv) t.vertices [] p (recursion_from_All (IsEdgeAmong (length t.vertices)) t.edges is.edges) vertices in
-    (pl ++ (mv ++ me), refl, subst (λ b. Says b t.vertices t.edges p) (append_assoc pl mv me) edges)
+    let all : Says (pl ++ (mv ++ me)) t.vertices t.edges p = subst (λ b. Says b t.vertices t.edges p) (append_assoc pl mv me) edges in
+    (pl ++ (mv ++ me), refl, subst (Says (pl ++ (mv ++ me)) t.vertices t.edges) (written_is version (Some t.priority)) all)
 
 pub tasks_said : (version : ℕ) (us : List Task) (ls : List (List (List ℕ))) (ts : List Task) → AllByRecursion (IsTask version) us → SaysTasks version ls ts
     → SaysTasks version (ls ++ flat_map (task_lines version) us) (ts ++ us)

@@ -9,7 +9,7 @@ use Rattle.drt_file.specs.declared.state.Draft.{Draft}
 use Rattle.drt_file.specs.trusted.Words.{value, task_word}
 use Rattle.drt_file.specs.trusted.Canonical.{version_line}
 use Rattle.drt_file.specs.trusted.Faults.{Fields, field, is_task, is_vertex, is_edge, is_priority, is_end, is_first, version_of, has_task, has_end, own_lines, lines_of_others, has_task_named, has_vertex_named, has_edge_between, others_have_priority}
-use Rattle.drt_file.specs.trusted.Reading.{written_priority}
+use Rattle.drt_file.proofs.Written.{written_priority}
 use Rattle.drt_file.specs.internal.StateFaults.{has_vertex, place_of_name, has_edge, has_priority, has_that_priority}
 use Rattle.drt_file.proofs.Digits.{value_decimal}
 use Rattle.drt_file.proofs.Kept.{IsDraft, SaysDrafts, Inside, Stands, written_two}

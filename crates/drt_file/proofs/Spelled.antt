@@ -20,7 +20,8 @@ use Rattle.drt_file.specs.internal.Kinds.{kind}
 use Rattle.drt_file.specs.trusted.Line.{is_text}
 use Rattle.drt_file.specs.internal.StateFaults.{kind_fault, end_fault, task_count}
 use Rattle.drt_file.specs.internal.Steps.{◌>>=◌, with_last, opening_priority, opening, after_task, after_end, after_kind, head, headed, line_step, first_line, has_no_vertex, has_no_priority, unless_at, task_of, closing, finish, read_text}
-use Rattle.drt_file.specs.trusted.Reading.{written_priority, SaysTasks, no_task, next_task, Reads}
+use Rattle.drt_file.specs.trusted.Reading.{Says, SaysTasks, no_task, next_task, Reads}
+use Rattle.drt_file.proofs.Written.{written_priority, written_is}
 use Rattle.drt_file.proofs.Snoc.{every_pop, every_map, every_unmap, every_weaker, Pairwise, pairs_pop, pairs_of_all}
 use Rattle.drt_file.proofs.Meanings.{unlike, any_of_every}
 use Rattle.drt_file.proofs.Names.{name_is}
@@ -188,7 +189,8 @@ tasks_lead version known ls ts (next_task ls2 ts2 own t rest (body, own_is, says
     let order : version ≡ 1 → t.priority ≡ length ts2 + 1 = λ one. f.in_order one (length ts2) t (get_last ts2 t) in
     let first = tasks_lead version known ls2 ts2 rest (few_pop version ts2 t f) in
     let line = leads_one (Done version ts2) (In version ts2 (t.name, held version k None, [], [])) (task_word ∷ t.name ∷ []) (task_one version ts2 t.name known is.name new_name room) in
-    let below = body_leads version k ts2 t.name body t.vertices t.edges (written_priority version (Some t.priority)) says (parts_of version t is)
+    let written : Says body t.vertices t.edges (written_priority version (Some t.priority)) = subst (Says body t.vertices t.edges) (sym (written_is version (Some t.priority))) says in
+    let below = body_leads version k ts2 t.name body t.vertices t.edges (written_priority version (Some t.priority)) written (parts_of version t is)
     (allowed version ts2 t known is.priority new_priority) in
     let both = leads_then (Done version ts2) (In version ts2 (t.name, held version k None, [], []))
     (In version ts2 (t.name, held version k (written_priority version (Some t.priority)), t.vertices, t.edges))

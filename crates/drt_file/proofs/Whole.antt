@@ -14,9 +14,10 @@ use Rattle.drt_file.specs.trusted.Cutting.{lines}
 use Rattle.drt_file.specs.trusted.Canonical.{version_line, end_line}
 use Rattle.drt_file.specs.trusted.Line.{said}
 use Rattle.drt_file.specs.internal.Steps.{◌>>=◌, with_last, first_line, has_no_vertex, has_no_priority, unless_at, task_of, closing, finish, steps, read_text}
-use Rattle.drt_file.specs.trusted.Reading.{Says, written_priority, SaysTask, SaysTasks, no_task, next_task, Reads}
+use Rattle.drt_file.specs.trusted.Reading.{Says, SaysTask, SaysTasks, no_task, next_task, Reads}
 use Rattle.drt_file.proofs.Snoc.{every_push, every_pop, Pairwise, pairs_unmap, pairs_map, pairs_weaker, pairs_all}
 use Rattle.drt_file.proofs.Keys.{key_of, Differ, Numbered, Keys}
+use Rattle.drt_file.proofs.Written.{written_priority, written_is}
 use Rattle.drt_file.proofs.Kept.{IsDraft, SaysDrafts, none, more}
 use Rattle.drt_file.proofs.Follows.{Follows, StandsAt, steps_follow}
 
@@ -94,7 +95,8 @@ one_said : (version : ℕ) (own : List (List (List ℕ))) (d : Draft) (n : ℕ) 
 unfolding task_of
 one_said version own d n is at =
     let same : d.priority ≡ Some (unwrap_or d.priority 0) = rw at refl in
-    (is.body, is.own_is, subst (λ (o : Option ℕ). Says is.body d.vertices d.edges (written_priority version o)) same is.says)
+    let said = subst (λ (o : Option ℕ). Says is.body d.vertices d.edges (written_priority version o)) same is.says in
+    (is.body, is.own_is, subst (Says is.body d.vertices d.edges) (written_is version (Some (unwrap_or d.priority 0))) said)
 
 tasks_said : (version : ℕ) (ls : List (List (List ℕ))) (ds : List Draft) → SaysDrafts version ls ds → AllByRecursion (λ d. 1 ≤ length d.vertices) ds
     → AllByRecursion (λ d. (n : ℕ) × (d.priority ≡ Some n)) ds → SaysTasks version ls (map task_of ds) × AllByRecursion (IsTask version) (map task_of ds)

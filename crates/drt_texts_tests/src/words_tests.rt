@@ -15,7 +15,7 @@ fn meaning_of(alloc: Global, words: &[&str]) -> Option<Meaning> {
 fn means_edf(alloc: Global, words: &[&str], budget: u32) -> bool {
     let meaning = meaning_of(alloc, words);
     match &meaning {
-        Some(Meaning::Edf { effort }) => effort.budget() == u64::from(budget),
+        Some(Meaning::Edf(effort)) => effort.budget() == u64::from(budget),
         _ => false,
     }
 }
@@ -29,7 +29,7 @@ fn has_numbers(effort: &Effort, workers: u32, budget: u32) -> bool {
 fn means_response(alloc: Global, words: &[&str], workers: u32, budget: u32) -> bool {
     let meaning = meaning_of(alloc, words);
     match &meaning {
-        Some(Meaning::Response { effort }) => has_numbers(effort, workers, budget),
+        Some(Meaning::Response(effort)) => has_numbers(effort, workers, budget),
         _ => false,
     }
 }
@@ -38,7 +38,7 @@ fn means_response(alloc: Global, words: &[&str], workers: u32, budget: u32) -> b
 fn means_assign(alloc: Global, words: &[&str], workers: u32, budget: u32) -> bool {
     let meaning = meaning_of(alloc, words);
     match &meaning {
-        Some(Meaning::Assign { effort }) => has_numbers(effort, workers, budget),
+        Some(Meaning::Assign(effort)) => has_numbers(effort, workers, budget),
         _ => false,
     }
 }

@@ -109,14 +109,14 @@ fn dispatch<S: Source, K: Sink, G: Gate, R: Threads + Wait + Sync>(
     ensures unread { (rules_of meaning).input ≡ Input.Nothing → source.new ≡ source.old }
 {
     match meaning {
-        Meaning::Edf { effort } => {
+        Meaning::Edf(effort) => {
             let crew = crew_of(rt, alloc, effort, gate);
             let make = |bytes: &[u8]| -> Result<Report, Unmade>
                 requires { IsInputWithin (edf_rules crew.effort.budget).input bytes.now }
             { edf::make(&crew, bytes) };
             conduct_by(alloc, &Edf { effort }, source, sink, make)
         }
-        Meaning::Sp { effort } => {
+        Meaning::Sp(effort) => {
             let crew = crew_of(rt, alloc, effort, gate);
             let make = |bytes: &[u8]| -> Result<Report, Unmade>
                 requires { IsInputWithin (sp_rules crew.effort.budget).input bytes.now }
@@ -133,7 +133,7 @@ fn dispatch<S: Source, K: Sink, G: Gate, R: Threads + Wait + Sync>(
             { bench::make(rt, alloc, &command, bytes, gate) };
             conduct_by(alloc, &command, source, sink, make)
         }
-        Meaning::Response { effort } => {
+        Meaning::Response(effort) => {
             let crew = crew_of(rt, alloc, effort, gate);
             let make = |bytes: &[u8]| -> Result<Report, Unmade>
                 requires { IsInputWithin (response_rules crew.effort.budget).input bytes.now }
@@ -141,7 +141,7 @@ fn dispatch<S: Source, K: Sink, G: Gate, R: Threads + Wait + Sync>(
             conduct_by(alloc, &Responses { effort }, source, sink, make)
         }
         Meaning::Convert => conduct(alloc, &Convert, source, sink),
-        Meaning::Assign { effort } => {
+        Meaning::Assign(effort) => {
             let crew = crew_of(rt, alloc, effort, gate);
             let make = |bytes: &[u8]| -> Result<Report, Unmade>
                 requires { IsInputWithin (assign_rules crew.effort.budget).input bytes.now }

@@ -1,9 +1,9 @@
 -- The options of a search by which of them are given, as the walk over them and the reading of their numbers go through them.
-use Rattle.std.proofs.Common.{◌≡◌, ◌≤◌, ◌<◌, ◌^◌, ◌++◌, ℕ, List, [], ◌∷◌, codes, decimal, arith, append-nil, lit<}
+use Rattle.std.proofs.Common.{◌≡◌, ◌≤◌, ◌<◌, ◌^◌, ◌++◌, ℕ, List, [], codes, decimal, arith, append-nil, lit<}
 use Rattle.std.specs.Str.Parse.{IsNumeral, digits_value}
 use Rattle.std.proofs.lemmas.Fmt.{decimal_is_IsNumeral}
 use Rattle.drt_effort.specs.Efforts.{most_budget, most_workers}
-use Rattle.drt_words.specs.Plain.{Spells, PlainOption, left_out, given, PlainOptions, workers_first, budget_first}
+use Rattle.drt_words.specs.Plain.{Spells, left_out, given, PlainOptions, workers_first, budget_first}
 
 -- A text writes a number from 1 to `most`.
 pub record IsWritten (most : ℕ) (text : List ℕ) (n : ℕ) : Type 0 where

@@ -7,13 +7,9 @@ use drt_effort::Effort;
 #[derive(Debug, Drop)]
 pub enum Meaning {
     /// The answer under EDF.
-    Edf {
-        effort: Effort,
-    },
+    Edf(Effort),
     /// The answer under fixed priorities.
-    Sp {
-        effort: Effort,
-    },
+    Sp(Effort),
     /// The task file as one of version 2.
     Upgrade,
     /// The ratio of each task, and the utilisation.
@@ -26,9 +22,7 @@ pub enum Meaning {
         number: u64,
     },
     /// The greatest response time of each vertex, with releases that reach it.
-    Response {
-        effort: Effort,
-    },
+    Response(Effort),
     /// A file of sporadic and multiframe tasks, as a task file.
     Convert,
     /// Who runs when: in the releases of a dossier or, where a vertex is named, in those of its response. As a picture, or as a text.
@@ -37,9 +31,7 @@ pub enum Meaning {
         vertex: Option<Spot>,
     },
     /// Priorities under which each task meets its deadlines.
-    Assign {
-        effort: Effort,
-    },
+    Assign(Effort),
     /// By how much the worst-case execution time of a vertex can grow: under fixed priorities, or under EDF.
     Margin {
         fixed: bool,

@@ -177,7 +177,7 @@ fn edf_in(matches: &ArgMatches) -> Option<Meaning>
     ensures { result ≡ option_map Edf (effort_at (rows_of (found_of matches.now))) }
 {
     let effort = effort_in(matches)?;
-    Some(Meaning::Edf { effort })
+    Some(Meaning::Edf(effort))
 }
 
 // What `sp` asks for.
@@ -185,7 +185,7 @@ fn sp_in(matches: &ArgMatches) -> Option<Meaning>
     ensures { result ≡ option_map Sp (effort_at (rows_of (found_of matches.now))) }
 {
     let effort = effort_in(matches)?;
-    Some(Meaning::Sp { effort })
+    Some(Meaning::Sp(effort))
 }
 
 // What `response` asks for.
@@ -193,7 +193,7 @@ fn response_in(matches: &ArgMatches) -> Option<Meaning>
     ensures { result ≡ option_map Response (effort_at (rows_of (found_of matches.now))) }
 {
     let effort = effort_in(matches)?;
-    Some(Meaning::Response { effort })
+    Some(Meaning::Response(effort))
 }
 
 // What `assign` asks for.
@@ -201,7 +201,7 @@ fn assign_in(matches: &ArgMatches) -> Option<Meaning>
     ensures { result ≡ option_map Assign (effort_at (rows_of (found_of matches.now))) }
 {
     let effort = effort_in(matches)?;
-    Some(Meaning::Assign { effort })
+    Some(Meaning::Assign(effort))
 }
 
 // What a command of this name asks for with these options, where it's none of those before `response`.

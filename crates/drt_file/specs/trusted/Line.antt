@@ -1,6 +1,6 @@
 -- What a line is, from its bytes and its fields.
-use Rattle.std.specs.Prelude.{ℕ, Bool, true, false, not, ◌||◌, ◌==◌, List, [], ◌∷◌, filter}
-use Rattle.drt_file.specs.trusted.Cutting.{is_blank, lines_of_fields}
+use Rattle.std.specs.Prelude.{ℕ, Bool, true, false, not, ◌||◌, ◌==◌, List, [], ◌∷◌, filter, map}
+use Rattle.drt_file.specs.trusted.Cutting.{is_blank, fields, lines}
 use Rattle.drt_file.specs.trusted.Words.{is_between, value}
 
 -- A line is skipped where it has no field, or where its first byte that isn't a blank is `#`.
@@ -11,7 +11,7 @@ is_skipped ((b ∷ bs) ∷ words) = b == 35
 
 -- What a text says is the fields of those of its lines that aren't skipped.
 abbrev pub said : List ℕ → List (List (List ℕ))
-said text = filter (λ words. not (is_skipped words)) (lines_of_fields text)
+said text = filter (λ words. not (is_skipped words)) (map fields (lines text))
 
 -- A byte that may stand in a line is a blank or printable ASCII.
 unfoldable pub is_text : ℕ → Bool

@@ -1,5 +1,6 @@
 -- Which texts read as which sets, and the fault of every other.
-use Rattle.std.specs.Prelude.{◌≡◌, ℕ, ◌==◌, if◌then◌else◌, List, [], ◌∷◌, ◌++◌, Option, Some, None, IsTrue, slice_get, codes}
+use Rattle.std.specs.Prelude.{◌≡◌, ℕ, ◌==◌, if◌then◌else◌, List, [], ◌∷◌, ◌++◌, Option, Some, None, slice_get, codes, decimal}
+use Rattle.std.specs.Net.Grammar.{IsNumber}
 use Rattle.drt_model.specs.declared.tasks.Vertex.{Vertex}
 use Rattle.drt_model.specs.declared.tasks.Edge.{Edge}
 use Rattle.drt_model.specs.declared.tasks.Task.{Task}
@@ -7,45 +8,24 @@ use Rattle.drt_model.specs.Contents.{Contents}
 use Rattle.drt_model.specs.Limits.{IsTaskSet}
 use Rattle.drt_file.specs.declared.fault.FileError.{FileError}
 use Rattle.drt_file.specs.declared.fault.FileError.TheVariants as errors
-use Rattle.drt_file.specs.trusted.Words.{is_number, value}
-use Rattle.drt_file.specs.trusted.Canonical.{version_line, end_line}
 use Rattle.drt_file.specs.trusted.Faults.{fault_of}
 use Rattle.drt_file.specs.trusted.Line.{said}
 
--- A field means a number where it is decimal digits of that value. Leading zeros are allowed.
-abbrev pub Means : List ℕ → ℕ → Type 0
-Means word n = IsTrue (is_number word) × (value word ≡ n)
-
--- A line says a vertex: `vertex NAME WCET DEADLINE`.
-abbrev pub SaysVertex : List (List ℕ) → Vertex → Type 0
-SaysVertex words v = (wcet : List ℕ) × (deadline : List ℕ) × (words ≡ codes "vertex" ∷ v.name ∷ wcet ∷ deadline ∷ []) × Means wcet v.wcet × Means deadline v.deadline
-
--- A line says an edge between two of these vertices: `edge FROM TO SEPARATION`, the ends by their names.
-abbrev pub SaysEdge : List Vertex → List (List ℕ) → Edge → Type 0
-SaysEdge vs words e = (from : Vertex) × (to : Vertex) × (sep : List ℕ) × (slice_get vs e.from ≡ Some from) × (slice_get vs e.to ≡ Some to)
-    × (words ≡ codes "edge" ∷ from.name ∷ to.name ∷ sep ∷ []) × Means sep e.sep
-
--- A line says a priority: `priority N`.
-abbrev pub SaysPriority : List (List ℕ) → ℕ → Type 0
-SaysPriority words n = (number : List ℕ) × (words ≡ codes "priority" ∷ number ∷ []) × Means number n
-
 -- The lines of a task below its `task` line say these vertices and these edges, each in this order, and this priority or none: line by
--- line, the last one last. An edge names vertices that stand above it, and no line follows another with a second priority.
+-- line, the last one last. An edge names vertices that stand above it, and no line follows another with a second priority. A number is
+-- one or more decimal digits; leading zeros are allowed.
 pub data Says : List (List (List ℕ)) → List Vertex → List Edge → Option ℕ → Type 0 where
   nothing : Says [] [] [] None
-  vertex : (body : List (List (List ℕ))) (vs : List Vertex) (es : List Edge) (p : Option ℕ) (words : List (List ℕ)) (v : Vertex) → Says body vs es p → SaysVertex words v
-      → Says (body ++ words ∷ []) (vs ++ v ∷ []) es p
-  edge : (body : List (List (List ℕ))) (vs : List Vertex) (es : List Edge) (p : Option ℕ) (words : List (List ℕ)) (e : Edge) → Says body vs es p → SaysEdge vs words e
-      → Says (body ++ words ∷ []) vs (es ++ e ∷ []) p
-  priority : (body : List (List (List ℕ))) (vs : List Vertex) (es : List Edge) (words : List (List ℕ)) (n : ℕ) → Says body vs es None → SaysPriority words n → Says (body ++ words ∷ []) vs es (Some n)
-
--- The priority that the lines of a task write: in version 2 its own, in version 1 none.
-unfoldable pub written_priority : ℕ → Option ℕ → Option ℕ
-written_priority version p = if version == 2 then p else None
+  vertex : (body : List (List (List ℕ))) (vs : List Vertex) (es : List Edge) (p : Option ℕ) (v : Vertex) (wcet deadline : List ℕ) → Says body vs es p → IsNumber 10 wcet v.wcet
+      → IsNumber 10 deadline v.deadline → Says (body ++ (codes "vertex" ∷ v.name ∷ wcet ∷ deadline ∷ []) ∷ []) (vs ++ v ∷ []) es p
+  edge : (body : List (List (List ℕ))) (vs : List Vertex) (es : List Edge) (p : Option ℕ) (e : Edge) (from to : Vertex) (sep : List ℕ) → Says body vs es p → slice_get vs e.from ≡ Some from
+      → slice_get vs e.to ≡ Some to → IsNumber 10 sep e.sep → Says (body ++ (codes "edge" ∷ from.name ∷ to.name ∷ sep ∷ []) ∷ []) vs (es ++ e ∷ []) p
+  priority : (body : List (List (List ℕ))) (vs : List Vertex) (es : List Edge) (number : List ℕ) (n : ℕ) → Says body vs es None → IsNumber 10 number n
+      → Says (body ++ (codes "priority" ∷ number ∷ []) ∷ []) vs es (Some n)
 
 -- Lines say a task: `task NAME`, and below it its vertices, its edges and in version 2 its priority.
 abbrev pub SaysTask : ℕ → List (List (List ℕ)) → Task → Type 0
-SaysTask version own t = (body : List (List (List ℕ))) × (own ≡ (codes "task" ∷ t.name ∷ []) ∷ body) × Says body t.vertices t.edges (written_priority version (Some t.priority))
+SaysTask version own t = (body : List (List (List ℕ))) × (own ≡ (codes "task" ∷ t.name ∷ []) ∷ body) × Says body t.vertices t.edges (if version == 2 then Some t.priority else None)
 
 -- Lines say tasks: those of each follow those of the tasks before it.
 pub data SaysTasks (version : ℕ) : List (List (List ℕ)) → List Task → Type 0 where
@@ -57,7 +37,7 @@ pub data SaysTasks (version : ℕ) : List (List (List ℕ)) → List Task → Ty
 pub record Reads (bytes : List ℕ) (set : Contents) : Type 0 where
   pub limits : IsTaskSet set.version set.tasks
   pub task_lines : List (List (List ℕ))
-  pub spelled : said bytes ≡ version_line set.version ∷ (task_lines ++ end_line ∷ [])
+  pub spelled : said bytes ≡ (codes "drt" ∷ decimal set.version ∷ []) ∷ (task_lines ++ (codes "end" ∷ []) ∷ [])
   pub tasks : SaysTasks set.version task_lines set.tasks
 
 -- A text has this fault: it is the one that the tables of codes give (Faults.antt), and the text reads as no set.
