@@ -37,9 +37,7 @@ module _ (keeps : PrioritiesKeepLimits) (bytes : List ℕ) (set : Contents) (bud
         answer = inl (
           refl,
           record {
-            priorities = a.priorities;
-            are = a.by_rule.are;
-            schedulable = a.proved.yes.schedulable;
+            order = record { priorities = a.priorities; are = a.by_rule.are; schedulable = a.proved.yes.schedulable };
             about = about_of (under_fixed ordered a.proved.evidence) (text dossier)
                 (subst (λ d. IsDossierText (under_fixed ordered a.proved.evidence) (text d)) (sym a.proved.dossier_is)
                 (record { stated = (limits, a.proved.in_range); is = refl }));

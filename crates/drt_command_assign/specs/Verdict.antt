@@ -1,20 +1,16 @@
 -- The verdict of `assign`: whether some distinct priorities make the set schedulable under fixed priorities.
-use Rattle.std.specs.Prelude.{◌≡◌, ℕ, ◌⊎◌, List, length}
+use Rattle.std.specs.Prelude.{◌≡◌, ℕ, ◌⊎◌, List}
 use Rattle.drt_model.specs.Contents.{Contents}
 use Rattle.drt_model.specs.declared.jobs.Policy.TheVariants.{Fixed}
-use Rattle.drt_model.specs.Schedulable.{Schedulable}
-use Rattle.drt_priorities.specs.Priorities.{ArePriorities, OrderExists, prioritised}
-use Rattle.drt_assign.specs.Assign.{with_priorities}
+use Rattle.drt_priorities.specs.Priorities.{OrderExists, prioritised}
 use Rattle.drt_command.specs.declared.report.Report.{Report}
 use Rattle.drt_command_files.specs.TaskFiles.{IsAccepted}
 use Rattle.drt_command_files.specs.Verdicts.{IsAbout}
 
 -- What is written is about the set with distinct priorities under which it is schedulable.
 pub record IsOrderText (set : Contents) (written : List ℕ) : Type 0 where
-  pub priorities : List ℕ
-  pub are : ArePriorities (length set.tasks) priorities
-  pub schedulable : Schedulable (prioritised set.tasks priorities) Fixed
-  pub about : IsAbout Fixed (with_priorities set.tasks priorities) written
+  pub order : OrderExists set.tasks
+  pub about : IsAbout Fixed (record { version = 2; tasks = prioritised set.tasks order.priorities }) written
 
 -- The bytes are an accepted file. At status 0 some priorities make its set schedulable, and such ones are written; at 1 none do; at 3 nothing is
 -- decided.

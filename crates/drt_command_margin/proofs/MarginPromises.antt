@@ -88,7 +88,10 @@ made_by policy task vertex bytes set k v budget accepted spot answer a m is = (
     accepted = accepted;
     k = k;
     v = v;
-    spot = spot;
+    t = spot.of;
+    task_is = (spot.task_is.here, spot.task_is.is);
+    x = spot.at;
+    vertex_is = (spot.vertex_is.here, spot.vertex_is.is);
     answer = verdict policy task vertex set k v budget accepted.reads.limits spot answer a m is;
   },
   record { set = set; accepted = accepted; k = k; v = v; spot = spot; answer = answer; are = a; is = is },
@@ -137,9 +140,9 @@ module _ (law : TextsReadAsOneSet) (task vertex bytes : List ℕ) where
 pub margin_lawful : TextsReadAsOneSet → (fixed : Bool) (task vertex : List ℕ) (b : ℕ) → AreLawful (margin_rules fixed task vertex b)
 margin_lawful law fixed task vertex b = record {
   low = λ bytes m d. verdict_low (policy_of fixed) task vertex bytes m d.0;
-  apart = λ bytes m f d h. fault_apart law task vertex bytes d.0.set d.0.k d.0.v f d.0.accepted d.0.spot h;
+  apart = λ bytes m f d h. fault_apart law task vertex bytes d.1.set d.1.k d.1.v f d.1.accepted d.1.spot h;
   one_fault = λ bytes f g h k. refused_one law task vertex bytes (policy_of fixed) f g h k;
   longer = λ bytes f h. inl (inl (long_file bytes f h));
-  made_ends = λ bytes m d n. absurd (spot_there law task vertex bytes d.0.set d.0.k d.0.v d.0.accepted d.0.spot n);
+  made_ends = λ bytes m d n. absurd (spot_there law task vertex bytes d.1.set d.1.k d.1.v d.1.accepted d.1.spot n);
   refused_ends = λ bytes f h n. refused_ends law task vertex bytes (policy_of fixed) f h n;
 }

@@ -1,5 +1,5 @@
 -- The verdict of `margin`: the greatest number of ticks by which the execution time of the named vertex can grow.
-use Rattle.std.specs.Prelude.{◌≡◌, ℕ, ◌+◌, ◌≤◌, ◌⊎◌, List, ◌++◌, codes, decimal, slice_set}
+use Rattle.std.specs.Prelude.{◌≡◌, ℕ, ◌+◌, ◌≤◌, ◌⊎◌, List, ◌++◌, codes, decimal, Some, slice_get, slice_set}
 use Rattle.drt_model.specs.Contents.{Contents}
 use Rattle.drt_model.specs.Limits.{IsTaskSet}
 use Rattle.drt_model.specs.declared.jobs.Policy.{Policy}
@@ -9,17 +9,11 @@ use Rattle.drt_model.specs.declared.tasks.Vertex.{Vertex}
 use Rattle.drt_model.specs.Schedulable.{Schedulable}
 use Rattle.drt_command.specs.declared.report.Report.{Report}
 use Rattle.drt_command_files.specs.AtOne.{IsUtilisationBelowOne, IsUtilisationOne}
-use Rattle.drt_command_files.specs.Spots.{IsSpot}
 use Rattle.drt_command_files.specs.TaskFiles.{IsAccepted}
-
--- The vertex with so many ticks more of execution time.
-abbrev pub grown : Vertex → ℕ → Vertex
-grown x add = record { name = x.name; wcet = x.wcet + add; deadline = x.deadline }
 
 -- The tasks with so many ticks more of vertex x, number v of task t, number k.
 abbrev pub grown_tasks : List Task → ℕ → Task → ℕ → Vertex → ℕ → List Task
-grown_tasks tasks k t v x add =
-    slice_set tasks k (record { name = t.name; priority = t.priority; vertices = slice_set t.vertices v (grown x add); edges = t.edges })
+grown_tasks tasks k t v x add = slice_set tasks k (record t { vertices = slice_set t.vertices v (record x { wcet = x.wcet + add }) })
 
 -- The tasks keep the limits, are schedulable under the policy and, under EDF, have a utilisation below one.
 pub record AreWithin (policy : Policy) (version : ℕ) (tasks : List Task) : Type 0 where
@@ -41,10 +35,13 @@ pub record Verdict (policy : Policy) (task vertex bytes : List ℕ) (made : Repo
   pub set : Contents
   pub accepted : IsAccepted bytes set
   pub k : ℕ
+  pub t : Task
+  pub task_is : (slice_get set.tasks k ≡ Some t) × (t.name ≡ task)
   pub v : ℕ
-  pub spot : IsSpot set.tasks task vertex k v
+  pub x : Vertex
+  pub vertex_is : (slice_get t.vertices v ≡ Some x) × (x.name ≡ vertex)
   pub answer :
-      ((made.status ≡ 0) × IsMarginText policy set.version (grown_tasks set.tasks k spot.of v spot.at) made.text)
+      ((made.status ≡ 0) × IsMarginText policy set.version (grown_tasks set.tasks k t v x) made.text)
       ⊎ (((made.status ≡ 1) × ¬ Schedulable set.tasks policy)
       ⊎ (((made.status ≡ 2) × (policy ≡ Edf) × IsUtilisationOne set.tasks)
       ⊎ (made.status ≡ 3)))

@@ -1,7 +1,7 @@
 -- Of the text of responses, the lines that begin with `response` are those of the responses.
 use Rattle.std.proofs.Common.{◌≡◌, ℕ, zero, suc, ◌+◌, ◌/◌, ◌%◌, ◌≤◌, Bool, true, false, not, cond, List, [], ◌∷◌, ◌++◌, length, map, codes, refl}
 use Rattle.std.proofs.Common.{ap, ◌∙◌, arith, rules}
-use Rattle.std.specs.Prelude.{decimal, filter, ◌==◌, nat_lt}
+use Rattle.std.specs.Prelude.{bytes_eq, slice_index_or, decimal, filter, ◌==◌, nat_lt}
 use Rattle.std.specs.Fmt.{digit_glyph, digits, digits_onto}
 use Rattle.std.specs.List.{AllByRecursion, flat_map}
 use Rattle.std.proofs.lemmas.List.{append-nil}
@@ -13,7 +13,10 @@ use Rattle.drt_file.proofs.Printed.{Stays, all_stay}
 use Rattle.drt_evidence.specs.Text.{release_line}
 use Rattle.drt_responses.specs.Text.{response_line, response_lines, response_text}
 use Rattle.drt_responses.specs.declared.response.Response.{Response}
-use Rattle.drt_command_response.specs.Verdict.{is_response}
+
+-- A line is that of a response: its first field is `response`.
+abbrev is_response : List (List ℕ) → Bool
+is_response words = bytes_eq (slice_index_or words 0 []) (codes "response")
 
 -- A digit is a byte above the space.
 glyph_high : (d : ℕ) → 33 ≤ digit_glyph false d
@@ -121,7 +124,7 @@ each_response (r ∷ responses) =
     ∙ ap (λ ls. ls ++ filter is_response (flat_map response_lines responses)) (one_response r)
     ∙ ap (λ ls. response_line r ∷ ls) (each_response responses)
 
-pub lines_are : (responses : List Response) → filter is_response (said (response_text responses)) ≡ map response_line responses
+pub lines_are : (responses : List Response) → filter (λ words. bytes_eq (slice_index_or words 0 []) (codes "response")) (said (response_text responses)) ≡ map response_line responses
 lines_are responses =
     ap (filter is_response) (said_is responses) ∙ filter-append is_response (flat_map response_lines responses) ((codes "close" ∷ []) ∷ [])
     ∙ ap (λ ls. ls ++ []) (each_response responses) ∙ append-nil (map response_line responses)

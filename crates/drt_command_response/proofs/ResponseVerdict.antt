@@ -1,7 +1,8 @@
 -- What is written is the verdict.
-use Rattle.std.proofs.Common.{◌≡◌, ◌⊎◌, ℕ, List, Result, Ok, Err, IfOk, inl, inr, ap, ◌∙◌}
-use Rattle.std.specs.Prelude.{filter}
-use Rattle.std.proofs.lemmas.List.Elements.{All-weaker}
+use Rattle.std.proofs.Common.{◌≡◌, ◌⊎◌, ℕ, List, [], ◌∷◌, Result, Ok, Err, IfOk, inl, inr, ap, sym, ◌∙◌}
+use Rattle.std.specs.Prelude.{filter, map, codes, decimal, bytes_eq, slice_index_or}
+use Rattle.std.proofs.lemmas.List.Elements.{All-map, All-weaker}
+use Rattle.std.proofs.lemmas.Simd.{map-map}
 use Rattle.drt_model.specs.Contents.{Contents}
 use Rattle.drt_model.specs.Schedulable.{Schedulable}
 use Rattle.drt_model.specs.declared.jobs.Policy.TheVariants.{Fixed}
@@ -9,6 +10,7 @@ use Rattle.drt_busy.specs.Response.{IsGreatestResponse}
 use Rattle.drt_claims.specs.declared.evidence.Evidence.TheVariants.{FixedNo, Undecided}
 use Rattle.drt_file.specs.trusted.Line.{said}
 use Rattle.drt_response.specs.Answers.{IsResponseOf}
+use Rattle.drt_responses.specs.declared.response.Response.{Response}
 use Rattle.drt_outcome.specs.declared.outcome.Trail.{Trail}
 use Rattle.drt_command.specs.declared.report.Report.{Report}
 use Rattle.drt_command.specs.declared.report.Unmade.{Unmade}
@@ -16,19 +18,25 @@ use Rattle.drt_command_files.specs.Verdicts.{IsAbout}
 use Rattle.drt_command_files.proofs.Abouts.{about_of}
 use Rattle.drt_sp.specs.Evidence.{under_fixed}
 use Rattle.drt_command_response.specs.Besides.{Besides, IsResponseText}
-use Rattle.drt_command_response.specs.Verdict.{IsGreatestText, is_response}
+use Rattle.drt_command_response.specs.Verdict.{IsGreatestText}
 use Rattle.drt_command_response.specs.Response.{response_rules}
 use Rattle.drt_command_response.proofs.ResponseLines.{lines_are}
 use Rattle.drt_command_response.proofs.ResponsePromises.{IsResponseAnswer}
 use Rattle.drt_command_response.proofs.ResponseVertices.{vertices_are}
 
+-- A response by its numbers.
+abbrev told : Response → ℕ × ℕ × ℕ
+told r = (r.task, r.vertex, r.ticks)
+
 greatest_of : (set : Contents) (written : List ℕ) → IsResponseText set written → IsGreatestText set written
 greatest_of set written t = record {
   schedulable = t.are.schedulable;
-  responses = t.responses;
-  are = t.are.are ∙ vertices_are set.tasks;
-  greatest = All-weaker (IsResponseOf set) (λ r. IsGreatestResponse set.tasks r.task r.vertex r.ticks) (λ r is. is.greatest) t.responses t.are.each;
-  lines = ap (λ text. filter is_response (said text)) t.text_is ∙ lines_are t.responses;
+  responses = map told t.responses;
+  are = map-map (λ r. (r.0, r.1)) told t.responses ∙ t.are.are ∙ vertices_are set.tasks;
+  greatest = All-map (λ r. IsGreatestResponse set.tasks r.0 r.1 r.2) told t.responses
+      (All-weaker (IsResponseOf set) (λ r. IsGreatestResponse set.tasks r.task r.vertex r.ticks) (λ r is. is.greatest) t.responses t.are.each);
+  lines = ap (λ text. filter (λ words. bytes_eq (slice_index_or words 0 []) (codes "response")) (said text)) t.text_is ∙ lines_are t.responses
+      ∙ sym (map-map (λ r. codes "response" ∷ decimal r.0 ∷ decimal r.1 ∷ decimal r.2 ∷ []) told t.responses);
 }
 
 -- What the status says.
