@@ -6,7 +6,8 @@ use Rattle.std.proofs.lemmas.List.{length-map}
 use Rattle.drt_model.specs.Limits.{IsName, IsTime}
 use Rattle.drt_file.specs.trusted.Words.{is_name, is_number, value, end_word}
 use Rattle.drt_file.specs.trusted.Line.{is_text, is_in_range}
-use Rattle.drt_file.specs.trusted.Reading.{Means}
+use Rattle.std.specs.Net.Grammar.{IsNumber}
+use Rattle.drt_file.proofs.Written.{means_number, number_means}
 use Rattle.drt_file.proofs.Meanings.{both, not_false, between, between_again, every_of_all, all_of_every}
 use Rattle.drt_file.proofs.Names.{name_is, is_a_name}
 use Rattle.drt_classic.specs.declared.classic.Frame.{Frame}
@@ -122,7 +123,7 @@ frame_is : (a b c : List ℕ) → Times a b c → is_past b c ≡ false → IsFr
 frame_is a b c t e = record { wcet = time_of a t.first_in; deadline = time_of b t.second_in; sep = time_of c t.third_in; constrained = not_past b c e }
 
 frame_meant : (a b c : List ℕ) → Times a b c → MeanFrame a b c (record { wcet = value a; deadline = value b; sep = value c })
-frame_meant a b c t = ((t.first, refl), (t.second, refl), (t.third, refl))
+frame_meant a b c t = (number_means a (value a) (t.first, refl), number_means b (value b) (t.second, refl), number_means c (value c) (t.third, refl))
 
 -- What three fields keep that mean a frame.
 record Meant (a b c : List ℕ) (f : Frame) : Type 0 where
@@ -132,13 +133,17 @@ record Meant (a b c : List ℕ) (f : Frame) : Type 0 where
   is : record { wcet = value a; deadline = value b; sep = value c } ≡ f
 
 meant : (a b c : List ℕ) (f : Frame) → MeanFrame a b c f → IsFrame f → Meant a b c f
-meant a b c f m is = record {
-  numbers = not_true (list_all is_number (a ∷ b ∷ c ∷ [])) (all_of_every is_number (a ∷ b ∷ c ∷ []) (m.0.0, (m.1.0, (m.2.0, tt))));
-  in_range = not_true (list_all is_in_range (a ∷ b ∷ c ∷ [])) (all_of_every is_in_range (a ∷ b ∷ c ∷ [])
-      (range_of a f.wcet m.0.1 is.wcet, (range_of b f.deadline m.1.1 is.deadline, (range_of c f.sep m.2.1 is.sep, tt))));
-  not_past = past_not b c f.deadline f.sep m.1.1 m.2.1 is.constrained;
-  is = rw (m.0.1, m.1.1, m.2.1) refl;
-}
+meant a b c f m is =
+    let x = means_number a f.wcet m.0 in
+    let y = means_number b f.deadline m.1 in
+    let z = means_number c f.sep m.2 in
+    record {
+      numbers = not_true (list_all is_number (a ∷ b ∷ c ∷ [])) (all_of_every is_number (a ∷ b ∷ c ∷ []) (x.0, (y.0, (z.0, tt))));
+      in_range = not_true (list_all is_in_range (a ∷ b ∷ c ∷ [])) (all_of_every is_in_range (a ∷ b ∷ c ∷ [])
+          (range_of a f.wcet x.1 is.wcet, (range_of b f.deadline y.1 is.deadline, (range_of c f.sep z.1 is.sep, tt))));
+      not_past = past_not b c f.deadline f.sep y.1 z.1 is.constrained;
+      is = rw (x.1, y.1, z.1) refl;
+    }
 
 -- A `sporadic` line.
 
@@ -201,9 +206,9 @@ period_frames deadline period (w ∷ ws) d p e are = (
   period_frames deadline period ws d p e are.1,
 )
 
-meant_all : (ws : List (List ℕ)) → AllByRecursion (λ w. is_number w ≡ true) ws → AllZip Means ws (map value ws)
+meant_all : (ws : List (List ℕ)) → AllByRecursion (λ w. is_number w ≡ true) ws → AllZip (IsNumber 10) ws (map value ws)
 meant_all [] are = tt
-meant_all (w ∷ ws) are = ((are.0, refl), meant_all ws are.1)
+meant_all (w ∷ ws) are = (number_means w (value w) (are.0, refl), meant_all ws are.1)
 
 few_of : (n : ℕ) → nat_lt 48 n ≡ false → n ≤ 48
 few_of n e = grind (arith, e)
@@ -240,8 +245,8 @@ multiframe_passed s (word ∷ name ∷ deadline ∷ period ∷ wcet ∷ wcets) r
         second = period;
         others = wcet ∷ wcets;
         spelled = ap (λ w. w ∷ name ∷ deadline ∷ period ∷ wcet ∷ wcets) first;
-        deadline_is = (n.0, refl);
-        period_is = (n.1.0, refl);
+        deadline_is = number_means deadline (value deadline) (n.0, refl);
+        period_is = number_means period (value period) (n.1.0, refl);
         wcets_are = meant_all (wcet ∷ wcets) n.1.1;
       };
       fits = record {
@@ -259,16 +264,17 @@ record MeantAll (ws : List (List ℕ)) (ns : List ℕ) : Type 0 where
   in_range : AllByRecursion (λ w. is_in_range w ≡ true) ws
   are : map value ws ≡ ns
 
-meant_again : (deadline period : ℕ) (ws : List (List ℕ)) (ns : List ℕ) → AllZip Means ws ns → AllByRecursion IsFrame (frames_of_period deadline period ns) → MeantAll ws ns
+meant_again : (deadline period : ℕ) (ws : List (List ℕ)) (ns : List ℕ) → AllZip (IsNumber 10) ws ns → AllByRecursion IsFrame (frames_of_period deadline period ns) → MeantAll ws ns
 meant_again deadline period [] [] m are = record { numbers = tt; in_range = tt; are = refl }
 meant_again deadline period [] (n ∷ ns) m are = absurd m
 meant_again deadline period (w ∷ ws) [] m are = absurd m
 meant_again deadline period (w ∷ ws) (n ∷ ns) m are =
     let r = meant_again deadline period ws ns m.1 are.1 in
+    let x = means_number w n m.0 in
     record {
-      numbers = (m.0.0, r.numbers);
-      in_range = (range_of w n m.0.1 are.0.wcet, r.in_range);
-      are = rw (m.0.1, r.are) refl;
+      numbers = (x.0, r.numbers);
+      in_range = (range_of w n x.1 are.0.wcet, r.in_range);
+      are = rw (x.1, r.are) refl;
     }
 
 same_multiframe : (name : List ℕ) (a b c d : ℕ) (xs ys : List ℕ) → a ≡ b → c ≡ d → xs ≡ ys → saying.Task (Multiframe name a c xs) ≡ saying.Task (Multiframe name b d ys)
@@ -283,7 +289,7 @@ multiframe_again s words name deadline period wcets says fits has =
     let few = fits.few in
     go says.others wcets says.spelled says.wcets_are (omega (arith, count, few)) has fits.frames
   where
-    go : (others : List (List ℕ)) (ns : List ℕ) → words ≡ multiframe_word ∷ name ∷ says.first ∷ says.second ∷ others → AllZip Means others ns → length ns ≤ 48 → 1 ≤ length ns
+    go : (others : List (List ℕ)) (ns : List ℕ) → words ≡ multiframe_word ∷ name ∷ says.first ∷ says.second ∷ others → AllZip (IsNumber 10) others ns → length ns ≤ 48 → 1 ≤ length ns
         → AllByRecursion IsFrame (frames_of_period deadline period ns) → Again (multiframe_fault s words) (classic_said_by kinds.Multiframe words) (saying.Task (Multiframe name deadline period ns))
     go others [] spelled mean few one are = absurd (omega (arith, one))
     go [] (n ∷ ns) spelled mean few one are = absurd mean
@@ -291,14 +297,16 @@ multiframe_again s words name deadline period wcets says fits has =
         let m = meant_again deadline period (w ∷ ws) (n ∷ ns) mean are in
         let long : length (w ∷ ws) ≡ length (n ∷ ns) = sym (length-map (w ∷ ws) value) ∙ ap length m.are in
         let frame = are.0 in
-        let numbers = all_of_every is_number (says.first ∷ says.second ∷ w ∷ ws) (says.deadline_is.0, (says.period_is.0, m.numbers)) in
+        let deadline_is = means_number says.first deadline says.deadline_is in
+        let period_is = means_number says.second period says.period_is in
+        let numbers = all_of_every is_number (says.first ∷ says.second ∷ w ∷ ws) (deadline_is.0, (period_is.0, m.numbers)) in
         let in_range = all_of_every is_in_range (says.first ∷ says.second ∷ w ∷ ws)
-        (range_of says.first deadline says.deadline_is.1 frame.deadline, (range_of says.second period says.period_is.1 frame.sep, m.in_range)) in
-        let past = past_not says.first says.second deadline period says.deadline_is.1 says.period_is.1 frame.constrained in
+        (range_of says.first deadline deadline_is.1 frame.deadline, (range_of says.second period period_is.1 frame.sep, m.in_range)) in
+        let past = past_not says.first says.second deadline period deadline_is.1 period_is.1 frame.constrained in
         rw spelled (record {
           none = passes _ _ (not_true _ numbers) (passes _ _ (not_true _ in_range) (passes _ _ (not_true (is_name name) (name_is name fits.name)) (passes _ _ fits.new (passes _ _ past
               (passes _ _ (room_again (classic_task_count s) fits.room) (passes _ _ (few_again (length (w ∷ ws)) (omega (arith, long, few))) none_left))))));
-          is = same_multiframe name (value says.first) deadline (value says.second) period (map value (w ∷ ws)) (n ∷ ns) says.deadline_is.1 says.period_is.1 m.are;
+          is = same_multiframe name (value says.first) deadline (value says.second) period (map value (w ∷ ws)) (n ∷ ns) deadline_is.1 period_is.1 m.are;
         })
 
 -- A `gmf` or `noncyclic` line.

@@ -8,7 +8,8 @@ use Rattle.std.proofs.lemmas.Slice.Eq.{bytes_eq-Decides}
 use Rattle.drt_file.specs.trusted.Cutting.{fields, is_blank}
 use Rattle.drt_file.specs.trusted.Words.{is_name, is_number, end_word}
 use Rattle.drt_file.specs.trusted.Line.{is_text}
-use Rattle.drt_file.specs.trusted.Reading.{Means}
+use Rattle.std.specs.Net.Grammar.{IsNumber}
+use Rattle.drt_file.proofs.Written.{means_number}
 use Rattle.drt_file.proofs.Leads.{text_again}
 use Rattle.drt_file.proofs.Meanings.{both, not_false, name_text, number_text}
 use Rattle.drt_file.proofs.Names.{name_is}
@@ -117,10 +118,10 @@ all_text : (words : List (List ℕ)) → AllByRecursion (λ w. list_all is_text 
 all_text [] are = refl
 all_text (w ∷ words) are = ap (λ t. t && list_all (list_all is_text) words) are.0 ∙ all_text words are.1
 
-means_text : (word : List ℕ) (n : ℕ) → Means word n → list_all is_text word ≡ true
-means_text word n m = number_text word m.0
+means_text : (word : List ℕ) (n : ℕ) → IsNumber 10 word n → list_all is_text word ≡ true
+means_text word n m = number_text word (means_number word n m).0
 
-means_texts : (words : List (List ℕ)) (ns : List ℕ) → AllZip Means words ns → AllByRecursion (λ w. list_all is_text w ≡ true) words
+means_texts : (words : List (List ℕ)) (ns : List ℕ) → AllZip (IsNumber 10) words ns → AllByRecursion (λ w. list_all is_text w ≡ true) words
 means_texts [] ns m = tt
 means_texts (w ∷ words) [] m = absurd m
 means_texts (w ∷ words) (n ∷ ns) m = (means_text w n m.0, means_texts words ns m.1)

@@ -2,7 +2,7 @@
 use Rattle.std.specs.Prelude.{◌≡◌, ℕ, List, [], ◌∷◌, ◌++◌, map, Some, codes}
 use Rattle.std.specs.List.{AllZip, flat_map}
 use Rattle.drt_file.specs.trusted.Line.{said}
-use Rattle.drt_file.specs.trusted.Reading.{Means}
+use Rattle.std.specs.Net.Grammar.{IsNumber}
 use Rattle.drt_classic.specs.declared.classic.Frame.{Frame}
 use Rattle.drt_classic.specs.declared.classic.Classic.{Classic}
 use Rattle.drt_classic.specs.declared.classic.Classic.TheVariants.{Sporadic, Multiframe, Cyclic, Free}
@@ -27,7 +27,7 @@ lines_of tasks = flat_map lines_of_classic tasks ++ saying.End ∷ []
 
 -- Three fields mean the times of a frame.
 abbrev pub MeanFrame : List ℕ → List ℕ → List ℕ → Frame → Type 0
-MeanFrame wcet deadline sep f = Means wcet f.wcet × Means deadline f.deadline × Means sep f.sep
+MeanFrame wcet deadline sep f = IsNumber 10 wcet f.wcet × IsNumber 10 deadline f.deadline × IsNumber 10 sep f.sep
 
 -- A line is `sporadic NAME WCET DEADLINE PERIOD`.
 pub record SaysSporadic (words : List (List ℕ)) (name : List ℕ) (f : Frame) : Type 0 where
@@ -43,9 +43,9 @@ pub record SaysMultiframe (words : List (List ℕ)) (name : List ℕ) (deadline 
   pub second : List ℕ
   pub others : List (List ℕ)
   pub spelled : words ≡ codes "multiframe" ∷ name ∷ first ∷ second ∷ others
-  pub deadline_is : Means first deadline
-  pub period_is : Means second period
-  pub wcets_are : AllZip Means others wcets
+  pub deadline_is : IsNumber 10 first deadline
+  pub period_is : IsNumber 10 second period
+  pub wcets_are : AllZip (IsNumber 10) others wcets
 
 -- A line is `frame WCET DEADLINE SEPARATION`.
 pub record SaysFrame (words : List (List ℕ)) (f : Frame) : Type 0 where
