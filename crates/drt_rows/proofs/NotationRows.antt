@@ -6,6 +6,8 @@ use Rattle.std.specs.Prelude.{count_by, sum_by, take}
 use Rattle.std.specs.Prelude.{slice_get, slice_index, slice_index_or, slice_set, option_map, option_and_then, unwrap_or, codes, bytes_eq}
 use Rattle.std.specs.Prelude.{decimal, IsSomeAnd, IfSome, IsTrue}
 use Rattle.std.specs.List.{range_with_len, join_with_byte, list_all}
+use Rattle.std.specs.Net.Grammar.{IsNumber}
+use Rattle.drt_model.specs.declared.tasks.Edge.{Edge}
 
 pub a_power : 2 ^ 3 ≡ 8
 a_power = refl
@@ -105,3 +107,12 @@ no_value P = tt
 
 pub a_true_test : IsTrue (3 == 3)
 a_true_test = refl
+
+pub with_leading_zeros : IsNumber 10 (codes "007") 7
+with_leading_zeros = ((lit< tt, (lit< tt, (lit< tt, (lit< tt, tt)))), refl)
+
+pub another_field : (e : Edge) → (record e { sep = 7 }).to ≡ e.to
+another_field e = refl
+
+pub its_field : (e : Edge) → (record e { sep = 7 }).sep ≡ 7
+its_field e = refl
