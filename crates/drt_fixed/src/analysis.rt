@@ -1,11 +1,12 @@
 //! The analysis.
-ghost use Rattle.std.specs.Prelude.{◌≡◌, ℕ, ◌≤◌, IfOk};
+ghost use Rattle.std.specs.Prelude.{◌≡◌, ℕ, ◌≤◌, IfOk, IfSome};
 ghost use Rattle.drt_model.specs.Contents.{Contents};
 ghost use Rattle.drt_claims.specs.Ranges.{IsEvidenceInRange};
 ghost use Rattle.drt_sp.specs.Answers.{IsTreeUndecided};
 ghost use Rattle.drt_sp.specs.Evidence.{under_fixed};
 ghost use Rattle.drt_fixed.specs.Answers.{IsAnalysed, IsByStates, IsDecision};
 
+use crate::foresight::is_beyond_trees;
 use crate::ranges::is_in_range;
 use crate::searching::find_by_states;
 use drt_accepted::Accepted;
@@ -30,7 +31,7 @@ pub struct Analysed {
 /// Decides whether a set is schedulable under fixed priorities.
 ///
 /// First each table and each frontier of `drt_sp` has the crew's budget or 4,096 steps, whichever is less; in the latter case one worker
-/// makes them. Where these are spent and the budget is greater, the states of each vertex are searched, with the budget for each; and where
+/// makes them, unless they are bound to be spent. Where they are and the budget is greater, the states of each vertex are searched, with the budget for each; and where
 /// that finds nothing, tables and frontiers have the whole budget.
 pub fn analyse_fixed<G: Gate, R: Threads + Wait + Sync>(
     crew: &Crew<'_, G, R>,
@@ -38,14 +39,8 @@ pub fn analyse_fixed<G: Gate, R: Threads + Wait + Sync>(
 ) -> Result<Analysed, Memory>
     ensures { IfOk result (IsAnalysed set.now crew.now.effort.budget) }
 {
-    let few = crew.with(first_effort(&crew.effort));
-    match drt_sp::analyse_fixed(&few, set)? {
-        Answer::Meets(evidence) => return Ok(decided(evidence)),
-        Answer::Misses(evidence) => return Ok(decided(evidence)),
-        Answer::Undecided(trail) if crew.effort.budget() <= ALLOWANCE => {
-            return Ok(undecided(trail));
-        }
-        Answer::Undecided(_) => {}
+    if let Some(answer) = try_trees(crew, set)? {
+        return Ok(answer);
     }
     if let Some(evidence) = decide_by_states(crew, set)? {
         return Ok(decided(evidence));
@@ -54,6 +49,27 @@ pub fn analyse_fixed<G: Gate, R: Threads + Wait + Sync>(
         Answer::Meets(evidence) => Ok(decided(evidence)),
         Answer::Misses(evidence) => Ok(decided(evidence)),
         Answer::Undecided(trail) => Ok(undecided(trail)),
+    }
+}
+
+// The answer of a first attempt by trees: none where its steps are spent, or are bound to be, and the budget has more.
+fn try_trees<G: Gate, R: Threads + Wait + Sync>(
+    crew: &Crew<'_, G, R>,
+    set: &Accepted<'_>,
+) -> Result<Option<Analysed>, Memory>
+    ensures { IfOk result (λ found. IfSome found (IsAnalysed set.now crew.now.effort.budget)) }
+{
+    if crew.effort.budget() > ALLOWANCE && is_beyond_trees(crew.alloc, set)? {
+        return Ok(None);
+    }
+    let few = crew.with(first_effort(&crew.effort));
+    match drt_sp::analyse_fixed(&few, set)? {
+        Answer::Meets(evidence) => Ok(Some(decided(evidence))),
+        Answer::Misses(evidence) => Ok(Some(decided(evidence))),
+        Answer::Undecided(trail) if crew.effort.budget() <= ALLOWANCE => {
+            Ok(Some(undecided(trail)))
+        }
+        Answer::Undecided(_) => Ok(None),
     }
 }
 

@@ -8,7 +8,7 @@ use drt_claims::{Dossier, Evidence};
 use drt_crew::Crew;
 use drt_effort::Effort;
 use drt_evidence::print;
-use drt_fixed::{Analysed, analyse_fixed, decide_by_states, first_effort};
+use drt_fixed::{Analysed, analyse_fixed, decide_by_states, first_effort, is_beyond_trees};
 use drt_fixtures::{Shape, make_set};
 use drt_graph::{Graphs, check};
 use drt_model::{Policy, Row, TaskSet};
@@ -224,6 +224,50 @@ fn a_small_set_is_answered_by_trees_and_an_automotive_one_by_states(
     ];
     for (shapes, claim) in cases {
         assert_eq!(rt; claim_on(&rt, rt.alloc(), shapes)?, claim);
+    }
+    Ok(())
+}
+
+// Whether the set of these shapes is thought to be beyond a first attempt by trees, and whether trees with its steps alone say nothing.
+fn beyond_and_spent<R: Threads + Wait + Sync>(
+    rt: &R,
+    alloc: Global,
+    shapes: &[Shape<'_>],
+) -> Result<(bool, bool), Fail> {
+    let set = make_set(alloc, shapes)?.ok_or("within the limits")?;
+    let graphs = make_graphs(alloc, &set)?;
+    let accepted = Accepted::of(&set, &graphs);
+    let crew = Crew {
+        rt,
+        alloc,
+        effort: Effort::new(1, 4_096),
+        gate: &OpenGate,
+    };
+    let Analysed { evidence, .. } = analyse_fixed(&crew, &accepted)?;
+    let is_beyond = is_beyond_trees(alloc, &accepted)?;
+    Ok((is_beyond, claim_of(&evidence) == Claim::Nothing))
+}
+
+#[test]
+fn a_set_is_beyond_trees_where_a_long_table_comes_before_any_miss(
+    rt: HostRuntime,
+) -> Result<(), Fail> {
+    let (engine, second) = (AUTOMOTIVE[0], AUTOMOTIVE[1]);
+    let small: [Shape<'_>; 2] = [(&[(1, 4)], &[(0, 0, 4)]), (&[(3, 4)], &[])];
+    // Above the engine 4,500 of 5,000 ticks are left for its first mode, and 4,501 are too many.
+    let above: [Shape<'_>; 3] = [(&[(4_500, 5_000)], &[]), engine, second];
+    let misses: [Shape<'_>; 3] = [(&[(4_501, 5_000)], &[]), engine, second];
+    // The last task has no table.
+    let last: [Shape<'_>; 2] = [(&[(100, 1_000_000)], &[(0, 0, 1_000_000)]), engine];
+    let cases: [(&[Shape<'_>], (bool, bool)); 5] = [
+        (&AUTOMOTIVE, (true, true)),
+        (&above, (true, true)),
+        (&misses, (false, false)),
+        (&last, (false, false)),
+        (&small, (false, false)),
+    ];
+    for (shapes, wanted) in cases {
+        assert_eq!(rt; beyond_and_spent(&rt, rt.alloc(), shapes)?, wanted);
     }
     Ok(())
 }
