@@ -196,17 +196,14 @@ none_of_both (x ∷ xs) ys none more = go (begins_end x) (list_any begins_end xs
     go true b none rest more = absurd (cc)
     go false b none rest more = rest none more
 
-one_none : (words first : List (List ℕ)) → words ≡ first → begins_end first ≡ false → list_any begins_end (words ∷ []) ≡ false
-one_none words first is none = ap (λ w. begins_end w || false) is ∙ ap (λ b. b || false) none
-
 body_none : (body : List (List (List ℕ))) (vs : List Vertex) (es : List Edge) (p : Option ℕ) → Says body vs es p → list_any begins_end body ≡ false
 body_none body vs es p nothing = refl
 body_none body vs es p (vertex above vs2 es2 p2 v wcet deadline says a b) =
-    none_of_both above ((codes "vertex" ∷ v.name ∷ wcet ∷ deadline ∷ []) ∷ []) (body_none above vs2 es2 p2 says) (one_none _ _ refl refl)
+    none_of_both above ((codes "vertex" ∷ v.name ∷ wcet ∷ deadline ∷ []) ∷ []) (body_none above vs2 es2 p2 says) refl
 body_none body vs es p (edge above vs2 es2 p2 e from to sep says a b m) =
-    none_of_both above ((codes "edge" ∷ from.name ∷ to.name ∷ sep ∷ []) ∷ []) (body_none above vs2 es2 p2 says) (one_none _ _ refl refl)
+    none_of_both above ((codes "edge" ∷ from.name ∷ to.name ∷ sep ∷ []) ∷ []) (body_none above vs2 es2 p2 says) refl
 body_none body vs es p (priority above vs2 es2 number n says m) =
-    none_of_both above ((codes "priority" ∷ number ∷ []) ∷ []) (body_none above vs2 es2 None says) (one_none _ _ refl refl)
+    none_of_both above ((codes "priority" ∷ number ∷ []) ∷ []) (body_none above vs2 es2 None says) refl
 
 tasks_none : (version : ℕ) (ls : List (List (List ℕ))) (ts : List Task) → SaysTasks version ls ts → list_any begins_end ls ≡ false
 tasks_none version ls ts no_task = refl
