@@ -1,5 +1,5 @@
 -- A worked yes of fixed priorities: the tree of a task's walks, and the proofs of the vertices.
-use Rattle.std.proofs.Common.{◌≡◌, ℕ, zero, suc, ◌<◌, List, [], ◌∷◌, Option, Some, None, map, refl, lit<, arith}
+use Rattle.std.proofs.Common.{◌≡◌, ℕ, zero, suc, ◌<◌, List, [], ◌∷◌, Some, None, map, refl, lit<, arith}
 use Rattle.std.specs.Prelude.{AllPairs, codes}
 use Rattle.std.proofs.lemmas.List.Sorted.{IsPermutation-swap}
 use Rattle.drt_model.specs.declared.tasks.Task.{Task}

@@ -1,6 +1,6 @@
 -- What `edf` writes of one vertex (2, 5) with a loop of 5 is accepted: each rule that applies is kept.
-use Rattle.std.proofs.Common.{◌≡◌, ℕ, zero, suc, ◌+◌, ◌*◌, ◌<◌, ◌≤◌, List, [], ◌∷◌, Some, refl, sym, ap, ◌∙◌, lit<, lit≤, arith}
-use Rattle.std.specs.Prelude.{All, if◌then◌else◌, pos}
+use Rattle.std.proofs.Common.{◌≡◌, ℕ, zero, suc, ◌<◌, ◌≤◌, [], ◌∷◌, Some, refl, sym, ap, ◌∙◌, lit<, lit≤, arith}
+use Rattle.std.specs.Prelude.{if◌then◌else◌, pos}
 use Rattle.std.specs.Int.{IsGcd}
 use Rattle.std.proofs.Math.Nat.{dvd-mul_left}
 use Rattle.std.proofs.lemmas.Bool.{ne_eqb}
@@ -9,18 +9,18 @@ use Rattle.std.proofs.lemmas.List.Elements.{All-nil, All-cons}
 use Rattle.std.proofs.lemmas.Nat.Gcd.{IsGcd-from_zero, IsGcd-from_mod, IsGcd-swap}
 use Rattle.std.proofs.lemmas.Option.{none-some, same_Some}
 use Rattle.drt_model.specs.Digraph.{Digraph, digraph_of, out_degree}
-use Rattle.drt_graph.specs.Horizon.{most_to, constant_of, extra, horizon}
+use Rattle.drt_graph.specs.Horizon.{most_to, extra}
 use Rattle.drt_graph.specs.RatioRules.{FitPotentials}
 use Rattle.drt_model.specs.Utilisation.{Fraction, IsScale, rate}
 use Rattle.drt_model.specs.Walk.{sep_in, or_zero, work, span}
 use Rattle.drt_graph.specs.declared.front.FrontEntry.{FrontEntry}
-use Rattle.drt_graph.specs.FrontEntry.{due, IsNextEntry}
-use Rattle.drt_claims.specs.Fronts.{HasOpenings, IsClosedFront, IsExtended, IsEntryWithin, works_due}
+use Rattle.drt_graph.specs.FrontEntry.{due}
+use Rattle.drt_claims.specs.Fronts.{HasOpenings, IsExtended, IsEntryWithin, works_due}
 use Rattle.drt_claims.specs.Rules.{Accepts}
 use Rattle.drt_rates.specs.declared.ratio_claim.RatioClaim.{RatioClaim}
-use Rattle.drt_claims.proofs.Accepting.{AreFrontClaims, AreRatioClaims, IsEdfYes, yes_accepted}
+use Rattle.drt_claims.proofs.Accepting.{AreFrontClaims, AreRatioClaims, yes_accepted}
 use Rattle.drt_rows.proofs.SetRows.{short_is_constrained}
-use Rattle.drt_rows.proofs.Sets.{edge, short}
+use Rattle.drt_rows.proofs.Sets.{short}
 use Rattle.drt_worked.proofs.TextRows.{edf_statement, one, set}
 
 abbrev claim : RatioClaim

@@ -1,11 +1,10 @@
 -- How large a budget is enough for the tasks (2, 2) with a loop of 4 and, below it, (2, 5) with a loop of 8.
-use Rattle.std.proofs.Common.{◌≡◌, ℕ, zero, suc, ◌+◌, ◌*◌, ◌<◌, ◌≤◌, List, [], ◌∷◌, Some, codes, length, refl, ap, sym, ◌∙◌, lit<, lit≤, arith}
+use Rattle.std.proofs.Common.{◌≡◌, ℕ, zero, suc, ◌+◌, ◌*◌, ◌<◌, ◌≤◌, List, [], ◌∷◌, Some, codes, refl, ap, sym, ◌∙◌, lit<, lit≤, arith}
 use Rattle.std.specs.Prelude.{Contains, None, if◌then◌else◌}
 use Rattle.std.proofs.lemmas.Bool.{ne_eqb}
 use Rattle.std.proofs.lemmas.Option.{none-some}
 use Rattle.drt_model.specs.declared.tasks.Task.{Task}
 use Rattle.drt_graph.specs.Degrees.{most_out}
-use Rattle.drt_model.specs.Digraph.{Digraph}
 use Rattle.drt_model.specs.Walk.{sep_in, or_zero, span}
 use Rattle.drt_busy.specs.Choice.{graph_at, task_at}
 use Rattle.drt_claims.specs.Trees.{IsShortWalk, greatest_deadline, latest_deadline}
