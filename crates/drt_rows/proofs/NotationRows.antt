@@ -116,3 +116,6 @@ another_field e = refl
 
 pub its_field : (e : Edge) → (record e { sep = 7 }).sep ≡ 7
 its_field e = refl
+
+pub third_part : (λ (p : ℕ × ℕ × ℕ). p.2) (4, 7, 9) ≡ 9
+third_part = refl
