@@ -1,5 +1,5 @@
 -- The demands of a set over the fronts of its tasks.
-use Rattle.std.specs.Prelude.{ℕ, ◌<◌, ◌≤◌, List, [], ◌∷◌, All, Option, Some, None}
+use Rattle.std.specs.Prelude.{ℕ, ◌<◌, ◌≤◌, List, All, Option, Some, None}
 use Rattle.drt_model.specs.Each.{Each}
 use Rattle.drt_model.specs.Digraph.{Digraph, vertex_count}
 use Rattle.drt_graph.specs.FrontEntry.{due}

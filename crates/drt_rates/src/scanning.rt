@@ -1,38 +1,40 @@
 //! The scan of the times at which demand rises.
-ghost use Rattle.std.specs.Prelude.{◌≡◌, ◌++◌, IfOk};
-ghost use Rattle.drt_sweep.specs.DueWorks.{works_from, works_of};
+ghost use Rattle.std.specs.Prelude.{◌≡◌, IfOk};
+ghost use Rattle.drt_sweep.specs.DueWorks.{AreRises, works_from, works_of};
 ghost use Rattle.drt_graph.specs.FrontEntry.{due};
 ghost use Rattle.drt_rates.specs.Demands.{AreFronts, IsFront, IsLeastExcess};
 
 use drt_graph::{FrontEntry, Graph, Graphs};
 use drt_model::{Memory, Row};
-use drt_sweep::{DueWork, first_excess};
+use drt_sweep::{DueWork, first_excess, rises};
 use std::alloc::Global;
 
-// The works of one front after those so far.
-fn add_front(
+// The works of one front.
+fn front_works(
+    alloc: Global,
     graph: &Graph,
     task: u32,
     front: &[FrontEntry],
     bound: u64,
-    works: &mut Vec<DueWork>,
-) -> Result<(), Memory>
+) -> Result<Vec<DueWork>, Memory>
     requires { IsFront graph.now bound front.now }
-    ensures { IfOk result (λ u. works.new.items ≡ works.old.items ++ works_from (due graph.now) (λ x. x.work) task front.now) }
+    ensures { IfOk result (λ out. out.items ≡ works_from (due graph.now) (λ x. x.work) task front.now) }
 {
     graph.keep_limits();
+    let mut out = Vec::with_capacity(alloc, front.len())?;
     'entries: for i in 0..front.len() {
         let entry = front[i];
-        works.push(DueWork {
+        out.push(DueWork {
             due: entry.offset + graph.vertex(entry.vertex).deadline as u64,
             task,
             work: entry.work,
         })?;
     }
-    Ok(())
+    Ok(out)
 }
 
-// The works of all fronts.
+// The works at which the demands over the fronts rise. The fronts of a task's vertices are merged one task after another, so
+// that one task's works are in memory beside these.
 fn works(
     alloc: Global,
     graphs: &Graphs,
@@ -40,17 +42,13 @@ fn works(
     bound: u64,
 ) -> Result<Vec<DueWork>, Memory>
     requires { AreFronts bound graphs.now fronts.now }
-    ensures { IfOk result (λ out. out.items ≡ works_of due (λ x. x.work) 0 graphs.now fronts.now) }
+    ensures { IfOk result (λ out. AreRises (works_of due (λ x. x.work) 0 graphs.now fronts.now) out.items) }
 {
     let mut out = Vec::new(alloc);
     'tasks: for i in 0..graphs.count() {
-        add_front(
-            graphs.graph(i),
-            i,
-            fronts[i as usize].as_slice(),
-            bound,
-            &mut out,
-        )?;
+        let front = fronts[i as usize].as_slice();
+        let all = front_works(alloc, graphs.graph(i), i, front, bound)?;
+        out.extend_from_slice(rises(alloc, all)?.as_slice())?;
     }
     Ok(out)
 }

@@ -1,3 +1,4 @@
 pub mod Works
 pub mod Sweeps
 pub mod Lists
+pub mod Thinned

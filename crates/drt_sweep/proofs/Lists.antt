@@ -1,29 +1,11 @@
--- The works of lists, one for each task, put into one list: their sum by a time is the sum over the lists. So the first excess
--- among them is that of the lists.
-use Rattle.std.proofs.Common.{◌≡◌, ℕ, zero, suc, ◌+◌, ◌<◌, ◌≤◌, Bool, true, false, eqb, List, [], ◌∷◌, ◌++◌, All, length, get_or, refl, sym, subst, arith}
-use Rattle.std.specs.Prelude.{max, Option, Some, None}
-use Rattle.std.specs.List.{Any}
-use Rattle.std.specs.List.Sorted.{IsPermutation}
+-- The works of lists, one for each task, put into one list: their sum by a time is the sum over the lists.
+use Rattle.std.proofs.Common.{◌≡◌, ℕ, zero, suc, ◌+◌, ◌<◌, ◌≤◌, Bool, true, false, eqb, List, [], ◌∷◌, ◌++◌, All, length, refl, sym, arith}
+use Rattle.std.specs.Prelude.{max}
 use Rattle.std.proofs.lemmas.Bool.{eqb-true, eqb-false}
-use Rattle.std.proofs.lemmas.List.{get_or_default}
-use Rattle.std.proofs.lemmas.List.Sorted.{All-permutation}
 use Rattle.drt_sweep.specs.declared.due_work.DueWork.{DueWork}
 use Rattle.drt_sweep.specs.Dues.{greatest_due, sum_due}
-use Rattle.drt_sweep.specs.DueWorks.{AreOfTasks, IsFirstExcess, work_by, sum_to, works_by, works_from, works_of}
-use Rattle.drt_sweep.proofs.Works.{part, by_cons, by_none, works_same, sum_grows, sum_none}
-
--- Two lists of works.
-by_both : (xs ys : List DueWork) (t k : ℕ) → work_by (xs ++ ys) t k ≡ max (work_by xs t k) (work_by ys t k)
-by_both [] ys t k = rw by_none (plain (work_by ys t k))
-  where
-    plain : (n : ℕ) → n ≡ max 0 n
-    plain n = grind arith
-by_both (r ∷ xs) ys t k =
-    let e = by_both xs ys t k in
-    rw (by_cons, by_cons, e) (grouped (part r t k) (work_by xs t k) (work_by ys t k))
-  where
-    grouped : (a b c : ℕ) → max a (max b c) ≡ max (max a b) c
-    grouped a b c = grind arith
+use Rattle.drt_sweep.specs.DueWorks.{AreOfTasks, work_by, sum_to, works_by, works_from, works_of}
+use Rattle.drt_sweep.proofs.Works.{by_both, by_cons, by_none, sum_grows, sum_none}
 
 -- The works of a list, for its own task.
 list_same : {X : Type 0} (due work : X → ℕ) (k : ℕ) (xs : List X) (t : ℕ) → work_by (works_from due work k xs) t k ≡ greatest_due due work xs t
@@ -118,15 +100,3 @@ few_tasks due work m (a ∷ tasks) (xs ∷ lists) n l k d p =
 -- The works of up to 32 lists are of the first 32 tasks.
 pub are_of_tasks : {T X : Type 0} (due : T → X → ℕ) (work : X → ℕ) (tasks : List T) (lists : List (List X)) → length tasks ≤ 32 → AreOfTasks (works_of due work 0 tasks lists)
 are_of_tasks due work tasks lists few = few_tasks due work 0 tasks lists 32 (omega arith)
-
--- What some element of a list keeps, some element keeps in another order.
-any_same : {X : Type 0} (P : X → Type 0) (xs ys : List X) → IsPermutation xs ys → Any P ys → Any P xs
-any_same P xs ys same any =
-    let all = All-permutation (λ x. P x → Any P xs) xs ys same (λ k d l p. (k, get_or xs k d, l, get_or_default xs k (get_or xs k d) d l, p)) in
-    all any.0 any.1 any.2 (subst P (sym any.3) any.4)
-
--- The first excess of works in another order.
-pub excess_same : (xs ys : List DueWork) (found : Option ℕ) → IsPermutation xs ys → IsFirstExcess ys found → IsFirstExcess xs found
-excess_same xs ys (Some t) same first =
-    (any_same (λ w. w.due ≡ t) xs ys same first.0, (let e = works_same xs ys t same in omega (arith, e, first.1)), λ s l. (let e = works_same xs ys s same in omega (arith, e, first.2 s l)))
-excess_same xs ys None same first = λ s. (let e = works_same xs ys s same in omega (arith, e, first s))

@@ -1,12 +1,12 @@
 -- The greatest works that are due by a time, task by task.
-use Rattle.std.proofs.Common.{◌≡◌, ℕ, zero, suc, ◌+◌, ◌<◌, ◌≤◌, List, [], ◌∷◌, All, ◌⊎◌, inl, inr, refl, arith}
+use Rattle.std.proofs.Common.{◌≡◌, ℕ, zero, suc, ◌+◌, ◌<◌, ◌≤◌, List, [], ◌∷◌, ◌++◌, All, ◌⊎◌, inl, inr, refl, arith}
 use Rattle.std.specs.Prelude.{max, nat_le, ◌==◌, ◌&&◌, if◌then◌else◌}
 use Rattle.std.specs.List.Sorted.{IsPermutation}
 use Rattle.std.proofs.Math.Nat.{le-max_left, le-max_right, max-le}
 use Rattle.std.proofs.lemmas.Bool.{cases_lt}
 use Rattle.std.proofs.lemmas.List.Sorted.{All-permutation, IsPermutation-sym}
 use Rattle.drt_sweep.specs.declared.due_work.DueWork.{DueWork}
-use Rattle.drt_sweep.specs.DueWorks.{work_by, sum_to, works_by}
+use Rattle.drt_sweep.specs.DueWorks.{work_by, sum_to}
 
 -- The work of one element, if it is of task k and due by t.
 abbrev pub part : DueWork → ℕ → ℕ → ℕ
@@ -37,6 +37,19 @@ in_cons r rs k = refl
 pub in_none : (k : ℕ) → work_in [] k ≡ 0
 unfolding work_in
 in_none k = refl
+
+-- Two lists of works.
+pub by_both : (xs ys : List DueWork) (t k : ℕ) → work_by (xs ++ ys) t k ≡ max (work_by xs t k) (work_by ys t k)
+by_both [] ys t k = rw by_none (plain (work_by ys t k))
+  where
+    plain : (n : ℕ) → n ≡ max 0 n
+    plain n = grind arith
+by_both (r ∷ xs) ys t k =
+    let e = by_both xs ys t k in
+    rw (by_cons, by_cons, e) (grouped (part r t k) (work_by xs t k) (work_by ys t k))
+  where
+    grouped : (a b c : ℕ) → max a (max b c) ≡ max (max a b) c
+    grouped a b c = grind arith
 
 -- What is at least the work of each element is at least the greatest.
 pub by_most : (rs : List DueWork) (t k m : ℕ) → All (λ r. part r t k ≤ m) rs → work_by rs t k ≤ m
@@ -90,7 +103,3 @@ sum_grows f h m (suc n) x l others e = go (cases_lt m n) (λ q. sum_grows f h m 
         let grown : h n ≡ f n + x = rw same at e in
         let rest = sum_same h f n (λ k p. others k (omega arith) (λ z. omega arith)) in
         omega (arith, grown, rest)
-
--- The order of the elements does not matter to their sum.
-pub works_same : (xs ys : List DueWork) (t : ℕ) → IsPermutation xs ys → works_by ys t ≡ works_by xs t
-works_same xs ys t is = sum_same (work_by ys t) (work_by xs t) 32 (λ k l. by_same xs ys t k is)

@@ -26,6 +26,11 @@ abbrev pub IsFirstExcess : List DueWork → Option ℕ → Type 0
 IsFirstExcess works (Some t) = Any (λ w. w.due ≡ t) works × (t < works_by works t) × ((s : ℕ) → s < t → works_by works s ≤ s)
 IsFirstExcess works None = (s : ℕ) → works_by works s ≤ s
 
+-- The works ys are some of xs, and the greatest that are due by each time are theirs.
+pub record AreRises (xs ys : List DueWork) : Type 0 where
+  pub among : All (λ y. Any (λ x. x ≡ y) xs) ys
+  pub works : (t k : ℕ) → work_by ys t k ≡ work_by xs t k
+
 -- The works of the list of task k, in order.
 abbrev pub works_from : {X : Type 0} → (X → ℕ) → (X → ℕ) → ℕ → List X → List DueWork
 works_from due work k [] = []

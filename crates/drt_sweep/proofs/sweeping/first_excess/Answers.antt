@@ -1,6 +1,6 @@
 use Rattle.std.proofs.Common.{◌<◌}
 use Rattle.std.proofs.lemmas.List.Sorted.{All-permutation}
-use Rattle.drt_sweep.proofs.Lists.{excess_same}
+use Rattle.drt_sweep.proofs.Thinned.{excess_same}
 use Rattle.drt_sweep.proofs.sweeping.first_excess.Goals as goal
 
 pub first_excess_among-requires-clause-tasks : goal.first_excess_among-requires-clause-tasks
