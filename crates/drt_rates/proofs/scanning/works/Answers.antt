@@ -15,7 +15,7 @@ front_works-requires c =
     let l : c.tasks.i < length c.args.graphs.now = omega (arith, c.tasks-test.true, c.count-i-end.ensures.count) in
     let m = next_front c.args.bound c.tasks.i c.args.graphs.now c.args.fronts.now l c.tasks.invariant.fronts in
     (next_are c.args.bound c.graph.result.now c.args.graphs.now c.as_slice-front.result.now c.args.fronts.now c.tasks.i l m (c.graph.ensures.graph ∙ get_or_default c.args.graphs.now c.tasks.i _ c.graph.result.now l)
-        (rw c.as_slice-front.ensures c.index-fronts-i.is) c.tasks.invariant.fronts).0
+    (rw c.as_slice-front.ensures c.index-fronts-i.is) c.tasks.invariant.fronts).0
 
 pub tasks-preserved : goal.tasks-preserved
 tasks-preserved c =
