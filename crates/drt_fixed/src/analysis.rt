@@ -21,7 +21,8 @@ use drt_sp::{ALLOWANCE, Answer, FixedTrail};
 use std::sync::Wait;
 use std::thread::Threads;
 
-/// What the analysis of a set under fixed priorities found: its evidence, and the trail of a spent budget where nothing is decided.
+/// What the analysis of a set under fixed priorities found: its evidence, and the trail of a spent budget where nothing
+/// is decided.
 #[derive(Drop)]
 pub struct Analysed {
     pub evidence: Evidence,
@@ -30,9 +31,10 @@ pub struct Analysed {
 
 /// Decides whether a set is schedulable under fixed priorities.
 ///
-/// First each table and each frontier of `drt_sp` has the crew's budget or 4,096 steps, whichever is less; in the latter case one worker
-/// makes them, unless they are bound to be spent. Where they are and the budget is greater, the states of each vertex are searched, with the budget for each; and where
-/// that finds nothing, tables and frontiers have the whole budget.
+/// First each table and each frontier of `drt_sp` has the crew's budget or 4,096 steps, whichever is less; in the
+/// latter case one worker makes them, unless they are bound to be spent. Where they are and the budget is greater, the
+/// states of each vertex are searched, with the budget for each; and where that finds nothing, tables and frontiers
+/// have the whole budget.
 pub fn analyse_fixed<G: Gate, R: Threads + Wait + Sync>(
     crew: &Crew<'_, G, R>,
     set: &Accepted<'_>,
@@ -73,7 +75,8 @@ fn try_trees<G: Gate, R: Threads + Wait + Sync>(
     }
 }
 
-/// The effort of a first attempt by trees: 4,096 steps by one worker, where the budget has more; else all of it, since nothing comes after it.
+/// The effort of a first attempt by trees: 4,096 steps by one worker, where the budget has more; else all of it, since
+/// nothing comes after it.
 pub fn first_effort(effort: &Effort) -> Effort
     ensures { effort.now.budget ≤ 4096 → result.budget ≡ effort.now.budget }
 {
@@ -84,7 +87,8 @@ pub fn first_effort(effort: &Effort) -> Effort
     }
 }
 
-/// The evidence by tails and states, where some is found with the crew's budget of states for each vertex and the checker accepts it.
+/// The evidence by tails and states, where some is found with the crew's budget of states for each vertex and the
+/// checker accepts it.
 pub fn decide_by_states<G: Gate, R: Threads + Wait + Sync>(
     crew: &Crew<'_, G, R>,
     set: &Accepted<'_>,

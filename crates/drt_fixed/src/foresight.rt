@@ -1,11 +1,10 @@
 //! Whether a first attempt by trees would be for nothing.
 //!
-//! The table of a task keeps each walk that asks for more than all walks that end at its vertex no later, and takes two steps for it and one for
-//! each edge out of the vertex. Merging keeps these walks alone, in a fraction of the time. Where they take more steps than a first attempt has, so
-//! does the table; and where no vertex down to that task can fail, since even the walks of most work above it leave it time, the attempt ends there,
-//! undecided. Nothing rests on this: a set that is thought to be beyond trees is decided by states, or by trees with the whole budget.
-ghost use Rattle.std.specs.Prelude.{◌≤◌, ◌≡◌, IfSome};
-ghost use Rattle.drt_model.specs.Numbers.{most_horizon};
+//! The table of a task keeps each walk that asks for more than all walks that end at its vertex no later, and takes two
+//! steps for it and one for each edge out of the vertex. Merging keeps these walks alone, in a fraction of the time. Where
+//! they take more steps than a first attempt has, so does the table; and where no vertex down to that task can fail, since
+//! even the walks of most work above it leave it time, the attempt ends there, undecided. Nothing rests on this: a set that
+//! is thought to be beyond trees is decided by states, or by trees with the whole budget.
 
 use drt_accepted::Accepted;
 use drt_check_trees::{greatest_deadline, priority_order};
@@ -13,13 +12,14 @@ use drt_graph::{FrontEntry, Graph};
 use drt_merge::{Patience, merged_front};
 use drt_model::{Memory, Row};
 use drt_sp::ALLOWANCE;
+use drt_tails::latest_deadline;
 use std::alloc::Global;
 
 // How often a time is put off to the work that is asked for before it.
 const MOST_ROUNDS: u32 = 1_000;
 
-// What the walks of a task ask for at most: walks in order of offset, each with the most work of those up to it. All walks with offsets below
-// `until` are among them.
+// What the walks of a task ask for at most: walks in order of offset, each with the most work of those up to it. All walks
+// with offsets below `until` are among them.
 #[derive(Drop)]
 struct Curve {
     until: u64,
@@ -115,16 +115,7 @@ fn curve_of(graph: &Graph, bound: u64, front: Row<FrontEntry>) -> Result<Curve, 
         walks[place].work = most;
     }
     Ok(Curve {
-        until: bound.saturating_sub(latest_deadline(graph)),
+        until: bound.saturating_sub(u64::from(latest_deadline(graph))),
         walks,
     })
-}
-
-// The greatest deadline of a graph's vertices, in ticks.
-fn latest_deadline(graph: &Graph) -> u64 {
-    let mut latest = 0;
-    for vertex in 0..graph.vertex_count() {
-        latest = u64::from(graph.vertex(vertex).deadline).max(latest);
-    }
-    latest
 }

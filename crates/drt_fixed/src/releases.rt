@@ -15,8 +15,9 @@ use drt_model::{Memory, Miss, Row};
 use drt_releases::{LAST_DEADLINE, all_releases, cut_walk};
 use std::alloc::Global;
 
-/// The no of a vertex: the releases of walks of tasks of higher priority, the walk at each place that of the task there, as far as they
-/// come before the deadline, and one of the vertex at 0, in order of tasks; and the miss of its job.
+/// The no of a vertex: the releases of walks of tasks of higher priority, the walk at each place that of the task
+/// there, as far as they come before the deadline, and one of the vertex at 0, in order of tasks; and the miss of its
+/// job.
 pub(crate) fn refusal(
     alloc: Global,
     given: Given<'_>,
@@ -41,8 +42,8 @@ pub(crate) fn refusal(
     })
 }
 
-// A walk for each task: for those of higher priority than the vertex's the one at its place, cut at the vertex's deadline, and the vertex alone
-// for its own task.
+// A walk for each task: for those of higher priority than the vertex's the one at its place, cut at the vertex's
+// deadline, and the vertex alone for its own task.
 fn job_walks(
     alloc: Global,
     given: Given<'_>,

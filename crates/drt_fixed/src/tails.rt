@@ -11,7 +11,7 @@ use drt_graph::{Graph, Graphs};
 use drt_model::{MOST_TIME, Memory};
 use drt_pool::Gate;
 use drt_states::TailClaim;
-use drt_tails::find_tail;
+use drt_tails::{find_tail, latest_deadline};
 use std::alloc::Global;
 use std::sync::Wait;
 use std::thread::Threads;
@@ -151,15 +151,6 @@ fn find_bounds(alloc: Global, graphs: &Graphs, order: &[u32]) -> Result<Vec<u32>
     }
     bounds.reverse();
     Ok(bounds)
-}
-
-// The greatest deadline of a task's vertices.
-fn latest_deadline(graph: &Graph) -> u32 {
-    let mut latest = 0;
-    for v in 0..graph.vertex_count() {
-        latest = latest.max(graph.vertex(v).deadline);
-    }
-    latest
 }
 
 // How large the tail of the task at each place is reckoned to be.

@@ -8,7 +8,7 @@ ghost use Rattle.drt_fixed_task.specs.Subjects.{IsTaskGiven};
 use crate::higher::higher_tasks;
 use crate::refusal::refuse;
 use crate::subjects::{Given, subject_of};
-use crate::tails::{find_tails, latest_deadline};
+use crate::tails::find_tails;
 use drt_accepted::Accepted;
 use drt_busy::times_suffice_for_task;
 use drt_check_states::find_crests;
@@ -18,6 +18,7 @@ use drt_pool::Gate;
 use drt_sp_states::{Searched, search_states};
 use drt_sp_task::TaskAnswer;
 use drt_states_laws::states_pass;
+use drt_tails::latest_deadline;
 use std::sync::Wait;
 use std::thread::Threads;
 

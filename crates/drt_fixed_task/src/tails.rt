@@ -1,8 +1,6 @@
 //! The tails of the tasks of higher priority.
-ghost use Rattle.std.specs.Prelude.{ℕ, ◌<◌, ◌≤◌, IfOk, IfSome};
+ghost use Rattle.std.specs.Prelude.{◌≤◌, IfOk, IfSome};
 ghost use Rattle.drt_model.specs.Numbers.{most_time};
-ghost use Rattle.drt_model.specs.Digraph.{vertex_count};
-ghost use Rattle.drt_model.specs.Walk.{deadline};
 ghost use Rattle.drt_check_states.specs.Places.{AreTasks, graphs_at};
 ghost use Rattle.drt_fixed_task.specs.Tails.{AreTails};
 
@@ -37,17 +35,4 @@ pub(crate) fn find_tails(
         tails.push(tail)?;
     }
     Ok(Some(tails))
-}
-
-/// The greatest deadline of a task's vertices, in ticks.
-pub(crate) fn latest_deadline(graph: &Graph) -> u32
-    ensures some { 1 ≤ result }
-    ensures most { result ≤ most_time }
-    ensures bounds { (v : ℕ) → v < vertex_count graph.now → deadline graph.now v ≤ result }
-{
-    let mut latest = 1;
-    'vertices: for v in 0..graph.vertex_count() {
-        latest = latest.max(graph.vertex(v).deadline);
-    }
-    latest
 }

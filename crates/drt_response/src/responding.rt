@@ -15,12 +15,13 @@ use drt_sp::Answer;
 use std::sync::Wait;
 use std::thread::Threads;
 
-/// The exact worst response time of each vertex of a set that is schedulable under fixed priorities, in ticks, with releases that reach it;
-/// or a no with its evidence.
+/// The exact worst response time of each vertex of a set that is schedulable under fixed priorities, in ticks, with
+/// releases that reach it; or a no with its evidence.
 ///
-/// First each search of trees has the crew's budget or 4,096 steps, whichever is less; in the latter case one worker makes them, unless they are
-/// bound to be spent. Where they are and the budget is greater, the states of each vertex are searched, with the budget for each; and where that finds nothing,
-/// trees have the whole budget, and what they say stands. The workers search together, and the gate sees each of their turns.
+/// First each search of trees has the crew's budget or 4,096 steps, whichever is less; in the latter case one worker
+/// makes them, unless they are bound to be spent. Where they are and the budget is greater, the states of each vertex
+/// are searched, with the budget for each; and where that finds nothing, trees have the whole budget, and what they say
+/// stands. The workers search together, and the gate sees each of their turns.
 pub fn respond<G: Gate, R: Threads + Wait + Sync>(
     crew: &Crew<'_, G, R>,
     set: &Accepted<'_>,

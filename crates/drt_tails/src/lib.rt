@@ -6,7 +6,9 @@
 #![tactic(auto)]
 
 mod cutting;
+mod deadlines;
 mod tails;
 mod turning;
 
+pub use deadlines::latest_deadline;
 pub use tails::find_tail;
