@@ -7,6 +7,7 @@ use Rattle.std.proofs.lemmas.List.{get_or_default}
 use Rattle.drt_model.specs.Legal.{AllNeighbours}
 use Rattle.drt_graph.specs.declared.front.FrontEntry.{FrontEntry}
 use Rattle.drt_graph.specs.FrontEntry.{IsNextEntry, Covers}
+use Rattle.drt_check_fronts.specs.FrontOrder.{IsPlace, is_up_to}
 
 next_trans : (a b c : FrontEntry) → IsNextEntry a b → IsNextEntry b c → IsNextEntry a c
 next_trans a b c (inl p) (inl q) = inl (omega arith)
@@ -29,10 +30,6 @@ later xs sorted i (suc j) d l m = go (cases_lt i j) (λ q. later xs sorted i j d
 -- The entry stands at or before where one of this vertex and offset would.
 abbrev pub IsUpTo : ℕ → ℕ → FrontEntry → Type 0
 IsUpTo v o e = (e.vertex < v) ⊎ ((e.vertex ≡ v) × (e.offset ≤ o))
-
--- Whether it does.
-abbrev pub is_up_to : ℕ → ℕ → FrontEntry → Bool
-is_up_to v o e = nat_lt e.vertex v || ((e.vertex == v) && nat_le e.offset o)
 
 pub up_true : (v o : ℕ) (e : FrontEntry) → is_up_to v o e ≡ true → IsUpTo v o e
 up_true v o e h = go (nat_lt e.vertex v) (eqb e.vertex v) (nat_le e.offset o) refl refl refl h
@@ -70,6 +67,36 @@ partitioned xs sorted v o i j d l m e = go (cases_lt i j)
     go : (i < j) ⊎ (j ≤ i) → is_up_to v o (get_or xs i d) ≡ true
     go (inl q) = true_up v o (get_or xs i d) (up_before v o (get_or xs i d) (get_or xs j d) (later xs sorted i j d q m) (up_true v o (get_or xs j d) e))
     go (inr q) = (let s : j ≡ i = omega arith in subst (λ (n : ℕ). is_up_to v o (get_or xs n d) ≡ true) s e)
+
+-- Where one entry stands up to there, so do those before it.
+pub reached : (xs : List FrontEntry) → AllNeighbours IsNextEntry xs → (v o p : ℕ) (d : FrontEntry) → (p ≡ 0 → ⊥) → p ≤ length xs → is_up_to v o (get_or xs (p - 1) d) ≡ true
+    → (k : ℕ) (e : FrontEntry) → 0 ≤ k → k < p → is_up_to v o (get_or xs k e) ≡ true
+reached xs sorted v o p d some l up k e z m =
+    let last : p - 1 < length xs = omega (arith, m) in
+    partitioned xs sorted v o k (p - 1) e (omega (arith, m)) last (subst (λ (y : FrontEntry). is_up_to v o y ≡ true) (get_or_default xs (p - 1) d e last) up)
+
+-- One more entry.
+pub reached_more : (xs : List FrontEntry) (v o p : ℕ) (d : FrontEntry) → p < length xs → ((k : ℕ) (e : FrontEntry) → 0 ≤ k → k < p → is_up_to v o (get_or xs k e) ≡ true) → is_up_to v o (get_or xs p d) ≡ true
+    → (k : ℕ) (e : FrontEntry) → 0 ≤ k → k < p + 1 → is_up_to v o (get_or xs k e) ≡ true
+reached_more xs v o p d l before up k e z m = go (cases_lt k p)
+  where
+    go : (k < p) ⊎ (p ≤ k) → is_up_to v o (get_or xs k e) ≡ true
+    go (inl q) = before k e z q
+    go (inr q) =
+        let s : p ≡ k = omega (arith, m) in
+        subst (λ (n : ℕ). is_up_to v o (get_or xs n e) ≡ true) s (subst (λ (y : FrontEntry). is_up_to v o y ≡ true) (get_or_default xs p d e l) up)
+
+-- The place is before the first entry that doesn't.
+pub place_at : (xs : List FrontEntry) → AllNeighbours IsNextEntry xs → (v o p : ℕ) (d : FrontEntry) → p < length xs → ((k : ℕ) (e : FrontEntry) → 0 ≤ k → k < p → is_up_to v o (get_or xs k e) ≡ true)
+    → is_up_to v o (get_or xs p d) ≡ false → IsPlace v o xs p
+place_at xs sorted v o p d l before not_up = (omega (arith, l), (before, λ k e m n. behind k e m n (is_up_to v o (get_or xs k e)) refl))
+  where
+    behind : (k : ℕ) (e : FrontEntry) → p ≤ k → k < length xs → (b : Bool) → is_up_to v o (get_or xs k e) ≡ b → is_up_to v o (get_or xs k e) ≡ false
+    behind k e m n false is = is
+    behind k e m n true is =
+        let up : is_up_to v o (get_or xs p e) ≡ true = partitioned xs sorted v o p k e m n is in
+        let same : is_up_to v o (get_or xs p e) ≡ false = subst (λ (y : FrontEntry). is_up_to v o y ≡ false) (get_or_default xs p d e l) not_up in
+        absurd (cc)
 
 abbrev pub IsPoint : List FrontEntry → ℕ → ℕ → ℕ → Type 0
 IsPoint xs v o p = IsPartitionPoint (λ y. is_up_to v o y ≡ true) (λ y. is_up_to v o y ≡ false) xs p

@@ -13,6 +13,9 @@ use drt_claims::FrontEntry;
 use drt_graph::{Graph, Graphs};
 use drt_model::Row;
 
+// For how many edges out of a vertex the search begins near where it ended for the entry before.
+const EDGES: usize = 64;
+
 /// Whether each front covers the extensions of its entries that are due within the bound.
 pub fn are_closed(graphs: &Graphs, fronts: &[Row<FrontEntry>], bound: u64) -> bool
     requires ranges { All (All IsInRangeEntry) fronts.now }
@@ -32,8 +35,9 @@ fn is_closed(graph: &Graph, front: &[FrontEntry], bound: u64) -> bool
     requires order { IsOrdered bound graph.now front.now }
     ensures { IsTrue result ↔ IsClosedFront bound graph.now front.now }
 {
+    let mut nears = [0; EDGES];
     for i in 0..front.len() {
-        if !is_extended(graph, front, bound, front[i]) {
+        if !is_extended(graph, front, bound, front[i], &mut nears) {
             return false;
         }
     }
@@ -41,14 +45,20 @@ fn is_closed(graph: &Graph, front: &[FrontEntry], bound: u64) -> bool
 }
 
 // Whether each extension of the entry is covered, or due past the bound.
-fn is_extended(graph: &Graph, front: &[FrontEntry], bound: u64, entry: FrontEntry) -> bool
+fn is_extended(
+    graph: &Graph,
+    front: &[FrontEntry],
+    bound: u64,
+    entry: FrontEntry,
+    nears: &mut [usize; EDGES],
+) -> bool
     requires range { IsInRangeEntry entry }
     requires order { AllNeighbours IsNextEntry front.now }
     requires vertex { entry.vertex < vertex_count graph.now }
     ensures { IsTrue result ↔ ((k : ℕ) → k < out_degree graph.now entry.vertex → IsExtended bound graph.now front.now entry k) }
 {
     for k in 0..graph.out_degree(entry.vertex) {
-        if !is_extended_by(graph, front, bound, entry, k) {
+        if !is_extended_by(graph, front, bound, entry, k, nears) {
             return false;
         }
     }
@@ -62,6 +72,7 @@ fn is_extended_by(
     bound: u64,
     entry: FrontEntry,
     k: u32,
+    nears: &mut [usize; EDGES],
 ) -> bool
     requires range { IsInRangeEntry entry }
     requires order { AllNeighbours IsNextEntry front.now }
@@ -74,5 +85,11 @@ fn is_extended_by(
     let target = graph.vertex(edge.to);
     let offset = entry.offset + edge.sep as u64;
     let work = entry.work + target.wcet as u64;
-    bound < offset + target.deadline as u64 || is_covered(front, edge.to, offset, work)
+    if bound < offset + target.deadline as u64 {
+        return true;
+    }
+    match nears.get_mut(k as usize) {
+        Some(near) => is_covered(front, near, edge.to, offset, work),
+        None => is_covered(front, &mut 0, edge.to, offset, work),
+    }
 }

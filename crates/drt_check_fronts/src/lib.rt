@@ -4,9 +4,9 @@
 //! it. `are_in_order`, `have_openings`, `are_closed` and `have_room` decide what the rules of `drt_claims/specs/Rules.antt` ask of
 //! them, in this order: each once those before it are kept. The bound is any; the checker above gives them the horizon.
 //!
-//! Once a front is known to be in order, the entry that covers a label is found by a binary search, so that all rules together
-//! take a time of about the number of the entries, times the edges out of a vertex, times the logarithm of that number. The crate
-//! stands on none of the search.
+//! Once a front is known to be in order, the entry that covers a label is found near that of the label before it, which the same edge
+//! gives, or else by a binary search. So all rules together take a time of about the number of the entries, times the edges out of a
+//! vertex, and at most times the logarithm of that number. The crate stands on none of the search.
 #![tactic(auto)]
 
 mod closing;

@@ -45,5 +45,6 @@ fn is_opened(graph: &Graph, front: &[FrontEntry], bound: u64, v: u32) -> bool
     ensures { IsTrue result ↔ (deadline graph.now v ≤ bound → Any (Covers v 0 (wcet graph.now v)) front.now) }
 {
     let vertex = graph.vertex(v);
-    bound < vertex.deadline as u64 || is_covered(front, v, 0, vertex.wcet as u64)
+    let mut near = 0;
+    bound < vertex.deadline as u64 || is_covered(front, &mut near, v, 0, vertex.wcet as u64)
 }

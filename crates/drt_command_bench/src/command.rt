@@ -12,6 +12,7 @@ ghost use Rattle.drt_command.specs.Inputs.{IsInputWithin};
 ghost use Rattle.drt_command.specs.Rules.{IsUnmadeCause};
 ghost use Rattle.drt_command_bench.specs.Bench.{AreCounts, Benches, EdfSays, FixedSays, bench_rules};
 
+use crate::ahead::decide_both;
 use crate::laws::scales_are_small;
 use drt_accepted::Accepted;
 use drt_claims::Evidence;
@@ -73,24 +74,23 @@ pub fn make<G: Gate, R: Threads + Wait + Sync>(
         gate,
     };
     let accepted = Accepted::of(&set, &graphs);
-    let edf = decide_edf(&crew, &accepted)?;
-    let fixed = decide_fixed(&crew, &accepted)?;
+    let (edf, fixed) = decide_both(&crew, &accepted)?;
     Ok(summarise(alloc, command.number, edf, fixed)?)
 }
 
-// What was found under EDF: the verdict, how many labels each front has, and the trail of a spent budget.
+/// What was found under EDF: the verdict, how many labels each front has, and the trail of a spent budget.
 #[derive(Drop)]
-struct EdfFinding {
-    verdict: EdfVerdict,
-    kept: Row<u64>,
-    trail: Option<EdfTrail>,
+pub(crate) struct EdfFinding {
+    pub verdict: EdfVerdict,
+    pub kept: Row<u64>,
+    pub trail: Option<EdfTrail>,
 }
 
-// What was found under fixed priorities: the verdict, and the trail of a spent budget.
+/// What was found under fixed priorities: the verdict, and the trail of a spent budget.
 #[derive(Drop)]
-struct FixedFinding {
-    verdict: FixedVerdict,
-    trail: Option<FixedTrail>,
+pub(crate) struct FixedFinding {
+    pub verdict: FixedVerdict,
+    pub trail: Option<FixedTrail>,
 }
 
 // The graphs of a set with constrained deadlines.
@@ -105,8 +105,8 @@ fn make_graphs(alloc: Global, set: &TaskSet) -> Result<Graphs, Memory>
     }
 }
 
-// The answer under EDF.
-fn decide_edf<G: Gate, R: Threads + Wait + Sync>(
+/// The answer under EDF.
+pub(crate) fn decide_edf<G: Gate, R: Threads + Wait + Sync>(
     crew: &Crew<'_, G, R>,
     set: &Accepted<'_>,
 ) -> Result<EdfFinding, Memory>
@@ -168,8 +168,8 @@ fn count_labels(alloc: Global, fronts: &[Row<FrontEntry>]) -> Result<Row<u64>, M
     Ok(Row::from_vec(kept))
 }
 
-// The answer under fixed priorities.
-fn decide_fixed<G: Gate, R: Threads + Wait + Sync>(
+/// The answer under fixed priorities.
+pub(crate) fn decide_fixed<G: Gate, R: Threads + Wait + Sync>(
     crew: &Crew<'_, G, R>,
     set: &Accepted<'_>,
 ) -> Result<FixedFinding, Memory>

@@ -2,6 +2,7 @@
 //! `scales_are_small` says of each drawn set that its scale is small, so that the command never meets one that is too fine.
 #![tactic(auto)]
 
+mod ahead;
 mod command;
 mod laws;
 
