@@ -20,6 +20,7 @@ use std::thread::Threads;
 
 // The places of the answers.
 const EDF: u32 = 0;
+
 const FIXED: u32 = 1;
 
 // What a worker found ahead, under one of the policies.
@@ -49,9 +50,12 @@ pub(crate) fn decide_both<G: Gate, R: Threads + Wait + Sync>(
         _ => decide_edf(crew, set)?,
     };
     let fixed = match take_found(&mut ahead, FIXED) {
-        Some(Found {
-            fixed: Some(fixed), ..
-        }) => fixed,
+        Some(
+            Found {
+                fixed: Some(fixed),
+                ..
+            },
+        ) => fixed,
         _ => decide_fixed(crew, set)?,
     };
     Ok((edf, fixed))
