@@ -1,5 +1,5 @@
 -- What both answers to a drawn set say.
-use Rattle.std.proofs.Common.{◌≡◌, ◌≢◌, ◌⊎◌, inl, inr, ℕ, zero, suc, ◌+◌, ◌<◌, ◌≤◌, ◌^◌, List, [], ◌∷◌, length, get_or, map, AllPairs, Option, Some, None, true≢false, refl, sym, ap, subst, ◌∙◌, arith}
+use Rattle.std.proofs.Common.{◌≡◌, ◌≢◌, inl, inr, ℕ, List, [], ◌∷◌, length, get_or, map, AllPairs, Some, None, true≢false, refl, sym, ap, arith}
 use Rattle.drt_model.specs.Contents.{Contents}
 use Rattle.drt_model.specs.Digraph.{Digraph}
 use Rattle.drt_model.specs.Legal.{AllNeighbours}
@@ -23,9 +23,7 @@ use Rattle.drt_edf.specs.Walks.{IsExactFront}
 use Rattle.drt_sp.specs.Answers as fixed_answers
 use Rattle.drt_gen.specs.Generated.{generated}
 use Rattle.drt_command_bench.specs.Scales.{AreAllSmall}
-use Rattle.drt_summary.specs.declared.summary.EdfVerdict.{EdfVerdict}
 use Rattle.drt_summary.specs.declared.summary.EdfVerdict.TheVariants as on_edf
-use Rattle.drt_summary.specs.declared.summary.FixedVerdict.{FixedVerdict}
 use Rattle.drt_summary.specs.declared.summary.FixedVerdict.TheVariants as on_fixed
 use Rattle.drt_trails.specs.declared.EdfTrail.{EdfTrail}
 use Rattle.drt_trails.specs.declared.FixedTrail.{FixedTrail}

@@ -2,3 +2,4 @@ mod SimpleCycles
 mod Periods
 mod Drawn
 pub mod BenchLemmas
+mod Taken

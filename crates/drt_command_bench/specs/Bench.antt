@@ -21,7 +21,6 @@ use Rattle.drt_summary.specs.declared.summary.FixedVerdict.TheVariants as on_fix
 use Rattle.drt_trails.specs.declared.EdfTrail.{EdfTrail}
 use Rattle.drt_trails.specs.declared.FixedTrail.{FixedTrail}
 use Rattle.drt_effort.specs.Efforts.{most_budget}
-use Rattle.drt_outcome.specs.declared.fault.Fault.{Fault}
 use Rattle.drt_outcome.specs.declared.outcome.Trail.TheVariants as trails
 use Rattle.drt_command.specs.declared.input.Input.TheVariants.{Nothing}
 use Rattle.drt_command.specs.declared.report.Report.{Report}

@@ -1,5 +1,5 @@
 //! Both answers, found side by side.
-ghost use Rattle.std.specs.Prelude.{◌≡◌, ◌≢◌, [], IfOk};
+ghost use Rattle.std.specs.Prelude.{◌≡◌, ◌≢◌, [], IfOk, IfSome};
 ghost use denote.Param.Send.{IsSync};
 ghost use Rattle.drt_ahead.specs.Found.{AreThere};
 ghost use Rattle.drt_model.specs.Limits.{IsTaskSet};
@@ -7,7 +7,7 @@ ghost use Rattle.drt_edf.specs.Plans.{AreTooFine};
 ghost use Rattle.drt_effort.specs.Efforts.{most_budget};
 ghost use Rattle.drt_summary.specs.declared.summary.EdfVerdict.{EdfVerdict};
 ghost use Rattle.drt_command_bench.specs.Bench.{AreCounts, EdfSays, FixedSays};
-ghost use Rattle.drt_command_bench.specs.Found.{IsFound};
+ghost use Rattle.drt_command_bench.specs.Found.{IsEdfFinding, IsFound};
 
 use crate::command::{EdfFinding, FixedFinding, decide_edf, decide_fixed};
 use drt_accepted::Accepted;
@@ -45,20 +45,38 @@ pub(crate) fn decide_both<G: Gate, R: Threads + Wait + Sync>(
     ensures fixed { IfOk result (λ r. FixedSays set.now r.1.verdict r.1.trail) }
 {
     let mut ahead = find_ahead(crew, set)?;
-    let edf = match take_found(&mut ahead, EDF) {
-        Some(Found { edf: Some(edf), .. }) => edf,
-        _ => decide_edf(crew, set)?,
+    let edf = match take_edf(set, &mut ahead) {
+        Some(edf) => edf,
+        None => decide_edf(crew, set)?,
     };
-    let fixed = match take_found(&mut ahead, FIXED) {
-        Some(
-            Found {
-                fixed: Some(fixed),
-                ..
-            },
-        ) => fixed,
-        _ => decide_fixed(crew, set)?,
+    let fixed = match take_fixed(set, &mut ahead) {
+        Some(fixed) => fixed,
+        None => decide_fixed(crew, set)?,
     };
     Ok((edf, fixed))
+}
+
+// Takes the answer under EDF, where it is found. The set is there for what it is the answer to.
+fn take_edf(_set: &Accepted<'_>, ahead: &mut Vec<Option<Found>>) -> Option<EdfFinding>
+    requires { AreThere (λ place f. IsFound _set.now f) ahead.old.items }
+    ensures ahead { AreThere (λ place f. IsFound _set.now f) ahead.new.items }
+    ensures edf { IfSome result (IsEdfFinding _set.now) }
+{
+    match take_found(ahead, EDF) {
+        Some(found) => found.edf,
+        None => None,
+    }
+}
+
+// Takes the answer under fixed priorities, where it is found.
+fn take_fixed(_set: &Accepted<'_>, ahead: &mut Vec<Option<Found>>) -> Option<FixedFinding>
+    requires { AreThere (λ place f. IsFound _set.now f) ahead.old.items }
+    ensures { IfSome result (λ f. FixedSays _set.now f.verdict f.trail) }
+{
+    match take_found(ahead, FIXED) {
+        Some(found) => found.fixed,
+        None => None,
+    }
 }
 
 // The answers that workers find side by side, each by one of them.

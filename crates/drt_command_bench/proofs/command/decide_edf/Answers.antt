@@ -1,5 +1,4 @@
 -- Each answer of the analysis says its verdict.
-use Rattle.std.proofs.Common.{◌≡◌, ◌^◌, ℕ, sym, subst, rules}
 use Rattle.drt_edf.specs.Answers.{IsEdfAnswer}
 use Rattle.drt_edf.specs.declared.answer.EdfAnswer.TheVariants.{Done, Beyond, Undecided}
 use Rattle.drt_claims.specs.declared.evidence.Evidence.TheVariants.{EdfYes, EdfNo, UtilisationOne}
