@@ -95,7 +95,8 @@ fn name_first(nodes: &mut [u32], leaves: usize)
     }
 }
 
-// Names again at each node above the leaf of an arc which arc comes first, after a change of this arc's candidate.
+// Names again at each node above the leaf of an arc which arc comes first, after a change of this arc's candidate. Where another arc comes first
+// before and after the change, nothing changes above.
 fn raise(nodes: &mut [u32], candidates: &[Mark], leaf: usize, arc: u32)
     requires nodes { leaf < length nodes.old }
     requires arc { arc < length candidates.now }
@@ -114,6 +115,9 @@ fn raise(nodes: &mut [u32], candidates: &[Mark], leaf: usize, arc: u32)
         let wins = comes_first(candidates[other as usize], candidates[first as usize]);
         first = if wins { other } else { first };
         at /= 2;
+        if first != arc && nodes[at] == first {
+            return;
+        }
         nodes[at] = first;
     }
 }
