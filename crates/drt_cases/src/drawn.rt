@@ -1,4 +1,4 @@
-//! Drawn sets: small ones, answered by one worker and by four that are begun at once, and one that `bench` draws.
+//! Drawn sets: small ones, answered by one worker and by four that are begun at once, and two that `bench` draws.
 use crate::running::{answer_to, write_for};
 use drt_gen::generate;
 use drt_model::Row;
@@ -215,6 +215,8 @@ fn agrees(
 
 #[test]
 fn words_of_bench_are_those_of_the_dossiers_of_its_set(rt: HostRuntime) -> Result<(), Fail> {
-    assert!(rt; agrees(&rt, rt.alloc(), "bench 1", 1)?);
+    for (words, number) in [("bench 1", 1), ("bench 4", 4)] {
+        assert!(rt; agrees(&rt, rt.alloc(), words, number)?, "{words}");
+    }
     Ok(())
 }

@@ -1,6 +1,5 @@
 -- What both answers to a drawn set say.
 use Rattle.std.proofs.Common.{◌≡◌, ◌≢◌, inl, inr, ℕ, List, [], ◌∷◌, length, get_or, map, AllPairs, Some, None, true≢false, refl, sym, ap, arith}
-use Rattle.drt_model.specs.Contents.{Contents}
 use Rattle.drt_model.specs.Digraph.{Digraph}
 use Rattle.drt_model.specs.Legal.{AllNeighbours}
 use Rattle.drt_model.specs.Limits.{IsTaskSet}
@@ -13,22 +12,17 @@ use Rattle.drt_claims.specs.Fronts.{IsOrdered}
 use Rattle.drt_graph.specs.FrontEntry.{IsNextEntry}
 use Rattle.drt_claims.specs.Rates.{IsAtOne}
 use Rattle.drt_rates.specs.declared.ratio_claim.RatioClaim.{RatioClaim}
-use Rattle.drt_claims.specs.declared.evidence.Evidence.{Evidence}
-use Rattle.drt_claims.specs.declared.evidence.Evidence.TheVariants.{EdfYes, EdfNo, UtilisationOne, FixedYes, FixedStates, FixedNo, Undecided}
 use Rattle.drt_claims.specs.declared.rule.Rule.TheVariants.{OrderedFronts}
 use Rattle.drt_horizon.specs.declared.answers.Beyond.TheVariants.{TooFar}
 use Rattle.drt_edf.specs.Answers.{IsExactEdfYes, IsEdfMiss, IsOther, IsEdfUndecided}
 use Rattle.drt_edf.specs.Plans.{AreTooFine, IsTooFar}
 use Rattle.drt_edf.specs.Walks.{IsExactFront}
-use Rattle.drt_sp.specs.Answers as fixed_answers
 use Rattle.drt_gen.specs.Generated.{generated}
 use Rattle.drt_command_bench.specs.Scales.{AreAllSmall}
 use Rattle.drt_summary.specs.declared.summary.EdfVerdict.TheVariants as on_edf
-use Rattle.drt_summary.specs.declared.summary.FixedVerdict.TheVariants as on_fixed
 use Rattle.drt_trails.specs.declared.EdfTrail.{EdfTrail}
-use Rattle.drt_trails.specs.declared.FixedTrail.{FixedTrail}
 use Rattle.drt_effort.specs.Efforts.{most_budget}
-use Rattle.drt_command_bench.specs.Bench.{AreCounts, EdfSays, FixedSays, HasCount}
+use Rattle.drt_command_bench.specs.Bench.{AreCounts, EdfSays, HasCount}
 use Rattle.drt_check_fronts.proofs.Orders.{later}
 use Rattle.drt_command_edf.proofs.EdfLemmas.{one_alone, one_near, other_near, undecided_other}
 use Rattle.drt_model.specs.Each.{Each}
@@ -109,40 +103,3 @@ pub yes_counts : (tasks : List Task) (ratios : List RatioClaim) (fronts : List (
 yes_counts tasks ratios fronts exact =
     let (b, is_bound, ordered) = (exact.accepted 1).keeps OrderedFronts tt in
     record { bound = exact.bound; below = exact.below; each = counts_each exact.bound b (graphs_of tasks) fronts exact.exact ordered }
-
-module _ (set : Contents) where
-  pub fixed_yes_says : (evidence : Evidence) → fixed_answers.IsTreeYes set evidence → FixedSays set on_fixed.Yes None
-  fixed_yes_says (EdfYes ratios fronts) is = absurd is.0
-  fixed_yes_says (EdfNo releases miss) is = absurd is.0
-  fixed_yes_says (UtilisationOne ratios) is = absurd is.0
-  fixed_yes_says (FixedYes trees proofs) is = record {
-    yes = λ e. is.0.schedulable;
-    no = λ e. absurd (cc);
-    undecided = (λ e. absurd (cc), λ some. absurd (true≢false (sym some)));
-    cause = tt;
-  }
-  fixed_yes_says (FixedStates tails searches) is = absurd is.0
-  fixed_yes_says (FixedNo releases miss) is = absurd is.0
-  fixed_yes_says Undecided is = absurd is.0
-
-  pub fixed_no_says : (evidence : Evidence) → fixed_answers.IsTreeNo set evidence → FixedSays set on_fixed.No None
-  fixed_no_says (EdfYes ratios fronts) is = absurd is.0
-  fixed_no_says (EdfNo releases miss) is = absurd is.0
-  fixed_no_says (UtilisationOne ratios) is = absurd is.0
-  fixed_no_says (FixedYes trees proofs) is = absurd is.0
-  fixed_no_says (FixedStates tails searches) is = absurd is.0
-  fixed_no_says (FixedNo releases miss) is = record {
-    yes = λ e. absurd (cc);
-    no = λ e. is.0.not_schedulable;
-    undecided = (λ e. absurd (cc), λ some. absurd (true≢false (sym some)));
-    cause = tt;
-  }
-  fixed_no_says Undecided is = absurd is.0
-
-  pub fixed_undecided_says : (trail : FixedTrail) → fixed_answers.IsTreeUndecided set most_budget trail → FixedSays set on_fixed.Undecided (Some trail)
-  fixed_undecided_says trail spent = record {
-    yes = λ e. absurd (cc);
-    no = λ e. absurd (cc);
-    undecided = (λ e. refl, λ some. refl);
-    cause = spent;
-  }

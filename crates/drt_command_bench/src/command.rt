@@ -20,14 +20,15 @@ use drt_command::{Input, Promised, Report, Unmade};
 use drt_crew::Crew;
 use drt_edf::{EdfAnswer, EdfTrail, analyse_edf};
 use drt_effort::{Effort, MOST_BUDGET};
+use drt_fixed::{Analysed, analyse_fixed};
 use drt_gen::{deadlines_are_constrained, generate, sets_keep_limits};
 use drt_graph::{FrontEntry, GraphError, Graphs, check};
 use drt_horizon::Beyond;
 use drt_model::{Memory, Row, TaskSet};
 use drt_outcome::outcome::{Trail, YES};
 use drt_pool::Gate;
-use drt_sp::{Answer, FixedTrail, analyse_fixed};
 use drt_summary::{EdfVerdict, FixedVerdict, Summary, print};
+use drt_trails::FixedTrail;
 use drt_words::Workers;
 use std::alloc::Global;
 use std::sync::Wait;
@@ -176,19 +177,27 @@ pub(crate) fn decide_fixed<G: Gate, R: Threads + Wait + Sync>(
     requires { crew.now.effort.budget ≡ most_budget }
     ensures { IfOk result (λ f. FixedSays set.now f.verdict f.trail) }
 {
-    match analyse_fixed(crew, set)? {
-        Answer::Meets(_) => Ok(FixedFinding {
+    let Analysed { evidence, trail } = analyse_fixed(crew, set)?;
+    match evidence {
+        Evidence::FixedYes { .. } => Ok(FixedFinding {
             verdict: FixedVerdict::Yes,
-            trail: None,
+            trail,
         }),
-        Answer::Misses(_) => Ok(FixedFinding {
+        Evidence::FixedStates { .. } => Ok(FixedFinding {
+            verdict: FixedVerdict::Yes,
+            trail,
+        }),
+        Evidence::FixedNo { .. } => Ok(FixedFinding {
             verdict: FixedVerdict::No,
-            trail: None,
+            trail,
         }),
-        Answer::Undecided(trail) => Ok(FixedFinding {
+        Evidence::Undecided => Ok(FixedFinding {
             verdict: FixedVerdict::Undecided,
-            trail: Some(trail),
+            trail,
         }),
+        Evidence::EdfYes { .. } | Evidence::EdfNo { .. } | Evidence::UtilisationOne { .. } => {
+            unreachable!()
+        }
     }
 }
 
